@@ -1,0 +1,184 @@
+-- `decodeOf` is the inverse of `encodeOf`, and 6,118 words decode.
+-- Assumes nothing.
+use mathlib.Core.Path.{_≡_, _∙_, refl, sym, ap, subst}
+use mathlib.Core.Bool.{Bool, true, false, _&&_}
+use Prim.Native.Nat.{ℕ, zero, suc, _+_, _*_, _/_, _%_, _<_}
+use native.Mathlib.Omega.{arith}
+use lib.Dec.{T, eqb, ltb, eqb→eq}
+use Rattle.instructions.specs.Encoding.{encodeOf}
+use Rattle.encoding_laws.specs.Reduced.{byteOf, reduced}
+use Rattle.instructions.specs.Reg.{gprNumber, gprAt}
+use Rattle.instructions.specs.declared.reg.GeneralPurposeRegister.{GeneralPurposeRegister}
+use Rattle.instructions.specs.declared.reg.SpecialPurposeRegister.{SpecialPurposeRegister}
+use Rattle.instructions.specs.declared.reg.DecimalRegister.{DecimalRegister}
+use Rattle.instructions.specs.declared.ins.Instruction.the-variants.{Nop, Hlt, Mov, DMov, Putl, Puth, Read, Write, Spread, Spwrite, DRead, DWrite, Push, Pop, Movso, Movsi, Spadd, Spinc, Spdec, Not, And, Booland, Or, Xor, Shl, Shr, Bitset, Neg, Inc, Dec, Add, Sub, Mul, Inv, Eqz, Eq, Gt, Gteq, Jmpoff, Cjmpoff, Cjmp, Call, Ret}
+use borrow.Author.Tests.{lt-ltb, le-ltb, ltb-true}
+use Rattle.instructions.specs.Decoding.{decodeOf, decodeBytes}
+use Rattle.instructions.specs.declared.ins.Instruction.{Instruction}
+use Rattle.instructions.specs.Answer.{Answer, gives, stops}
+use Rattle.encoding_laws.specs.Count.{total, one, decodable}
+use Rattle.encoding_laws.specs.Inverse.{Inverse}
+use Rattle.encoding_laws.proofs.Table.{every, at, by-rows, total-same, gprs, sprs, drs, by-gprs, by-sprs, by-drs}
+
+-- the answer leads back to the word
+abbrev back : ℕ → Answer Instruction → Bool
+back w (gives i) = eqb (encodeOf i) w
+back w (stops n v) = eqb n 10 && eqb v w
+
+abbrev backAt : ℕ → ℕ → Bool
+backAt h l = back (h * 256 + l) (decodeBytes (h * 256 + l) h l)
+
+-- all 65,536 words, computed
+all-back : T (every (λ h. every (λ l. backAt h l) 256) 256)
+all-back = tt
+
+back-at : (h l : ℕ) → h < 256 → l < 256 → T (backAt h l)
+back-at h l hh hl = at (λ l. backAt h l) 256 (at (λ h. every (λ l. backAt h l) 256) 256 all-back h hh) l hl
+
+back-word : (w : ℕ) → w < 65536 → T (back w (decodeOf w))
+unfolding decodeOf
+back-word w h =
+    let e : w / 256 * 256 + w % 256 ≡ w = omega arith in
+    subst (λ (v : ℕ). T (back v (decodeBytes v (w / 256) (w % 256)))) e (back-at (w / 256) (w % 256) (omega arith) (omega arith))
+
+-- a word that decodes is the encoding of what it decodes to
+encode-decode : (w : ℕ) → w < 65536 → (i : Instruction) → decodeOf w ≡ gives i → encodeOf i ≡ w
+encode-decode w h i e = eqb→eq (encodeOf i) w (subst (λ (d : Answer Instruction). T (back w d)) e (back-word w h))
+
+both : (a b : Bool) → T (a && b) → T a × T b
+both true b t = (tt, t)
+both false b t = absurd t
+
+-- a word that does not is stop 10 with the word
+undecodable : (w : ℕ) → w < 65536 → (n v : ℕ) → decodeOf w ≡ stops n v → (n ≡ 10) × (v ≡ w)
+undecodable w h n v e =
+    let t : T (eqb n 10) × T (eqb v w) = both (eqb n 10) (eqb v w) (subst (λ (d : Answer Instruction). T (back w d)) e (back-word w h)) in
+    (eqb→eq n 10 (t .0), eqb→eq v w (t .1))
+
+-- the upper and the lower byte of a word
+bytes : (h l w : ℕ) → w ≡ h * 256 + l → l < 256 → decodeOf w ≡ decodeBytes w h l
+unfolding decodeOf
+bytes h l w e s =
+    let eh : w / 256 ≡ h = omega arith in
+    let el : w % 256 ≡ l = omega arith in
+    rw (eh, el)
+
+by-bytes : total (λ h. total (λ l. one (decodeBytes (h * 256 + l) h l)) 256) 256 ≡ 6118
+by-bytes = refl
+
+-- of the 65,536 words, counted by one computed test
+pub decodable-words : decodable (256 * 256) ≡ 6118
+unfolding decodable
+decodable-words =
+    by-rows (λ w. one (decodeOf w)) 256 256 ∙
+    total-same (λ h. total (λ l. one (decodeOf (h * 256 + l))) 256) (λ h. total (λ l. one (decodeBytes (h * 256 + l) h l)) 256) 256
+    (λ h _. total-same (λ l. one (decodeOf (h * 256 + l))) (λ l. one (decodeBytes (h * 256 + l) h l)) 256 (λ l s. ap one (bytes h l (h * 256 + l) refl s))) ∙
+    by-bytes
+
+small : (r : GeneralPurposeRegister) → gprNumber r < 8
+small r = ltb-true _ _ (by-gprs (λ r. ltb (gprNumber r) 8) (λ r. true) refl r)
+
+number : (r : GeneralPurposeRegister) → gprAt (gprNumber r) ≡ r
+number r = by-gprs (λ r. gprAt (gprNumber r)) (λ r. r) refl r
+
+ones : (k : GeneralPurposeRegister → Instruction) → gprs (λ q. decodeOf (encodeOf (k q))) ≡ gprs (λ q. gives (k q)) → (q : GeneralPurposeRegister) → decodeOf (encodeOf (k q)) ≡ gives (k q)
+ones k e = by-gprs (λ q. decodeOf (encodeOf (k q))) (λ q. gives (k q)) e
+
+pairs-gg : (k : GeneralPurposeRegister → GeneralPurposeRegister → Instruction) → gprs (λ p. gprs (λ q. decodeOf (encodeOf (k p q)))) ≡ gprs (λ p. gprs (λ q. gives (k p q))) → (p : GeneralPurposeRegister) (q : GeneralPurposeRegister) → decodeOf (encodeOf (k p q)) ≡ gives (k p q)
+pairs-gg k e p = by-gprs (λ q. decodeOf (encodeOf (k p q))) (λ q. gives (k p q)) (by-gprs (λ p. gprs (λ q. decodeOf (encodeOf (k p q)))) (λ p. gprs (λ q. gives (k p q))) e p)
+
+pairs-dd : (k : DecimalRegister → DecimalRegister → Instruction) → drs (λ p. drs (λ q. decodeOf (encodeOf (k p q)))) ≡ drs (λ p. drs (λ q. gives (k p q))) → (p : DecimalRegister) (q : DecimalRegister) → decodeOf (encodeOf (k p q)) ≡ gives (k p q)
+pairs-dd k e p = by-drs (λ q. decodeOf (encodeOf (k p q))) (λ q. gives (k p q)) (by-drs (λ p. drs (λ q. decodeOf (encodeOf (k p q)))) (λ p. drs (λ q. gives (k p q))) e p)
+
+pairs-dg : (k : DecimalRegister → GeneralPurposeRegister → Instruction) → drs (λ p. gprs (λ q. decodeOf (encodeOf (k p q)))) ≡ drs (λ p. gprs (λ q. gives (k p q))) → (p : DecimalRegister) (q : GeneralPurposeRegister) → decodeOf (encodeOf (k p q)) ≡ gives (k p q)
+pairs-dg k e p = by-gprs (λ q. decodeOf (encodeOf (k p q))) (λ q. gives (k p q)) (by-drs (λ p. gprs (λ q. decodeOf (encodeOf (k p q)))) (λ p. gprs (λ q. gives (k p q))) e p)
+
+pairs-gd : (k : GeneralPurposeRegister → DecimalRegister → Instruction) → gprs (λ p. drs (λ q. decodeOf (encodeOf (k p q)))) ≡ gprs (λ p. drs (λ q. gives (k p q))) → (p : GeneralPurposeRegister) (q : DecimalRegister) → decodeOf (encodeOf (k p q)) ≡ gives (k p q)
+pairs-gd k e p = by-drs (λ q. decodeOf (encodeOf (k p q))) (λ q. gives (k p q)) (by-gprs (λ p. drs (λ q. decodeOf (encodeOf (k p q)))) (λ p. drs (λ q. gives (k p q))) e p)
+
+pairs-gs : (k : GeneralPurposeRegister → SpecialPurposeRegister → Instruction) → gprs (λ p. sprs (λ q. decodeOf (encodeOf (k p q)))) ≡ gprs (λ p. sprs (λ q. gives (k p q))) → (p : GeneralPurposeRegister) (q : SpecialPurposeRegister) → decodeOf (encodeOf (k p q)) ≡ gives (k p q)
+pairs-gs k e p = by-sprs (λ q. decodeOf (encodeOf (k p q))) (λ q. gives (k p q)) (by-gprs (λ p. sprs (λ q. decodeOf (encodeOf (k p q)))) (λ p. sprs (λ q. gives (k p q))) e p)
+
+pairs-sg : (k : SpecialPurposeRegister → GeneralPurposeRegister → Instruction) → sprs (λ p. gprs (λ q. decodeOf (encodeOf (k p q)))) ≡ sprs (λ p. gprs (λ q. gives (k p q))) → (p : SpecialPurposeRegister) (q : GeneralPurposeRegister) → decodeOf (encodeOf (k p q)) ≡ gives (k p q)
+pairs-sg k e p = by-gprs (λ q. decodeOf (encodeOf (k p q))) (λ q. gives (k p q)) (by-sprs (λ p. gprs (λ q. decodeOf (encodeOf (k p q)))) (λ p. gprs (λ q. gives (k p q))) e p)
+
+putl : (r : GeneralPurposeRegister) (imm : ℕ) → imm < 256 → decodeOf (encodeOf (Putl r imm)) ≡ gives (Putl r imm)
+putl r imm h =
+    bytes (0x10 + gprNumber r) imm _ (omega arith) h ∙
+    by-gprs (λ r. decodeBytes (encodeOf (Putl r imm)) (0x10 + gprNumber r) imm) (λ r. gives (Putl r imm)) refl r
+
+puth : (r : GeneralPurposeRegister) (imm : ℕ) → imm < 256 → decodeOf (encodeOf (Puth r imm)) ≡ gives (Puth r imm)
+puth r imm h =
+    bytes (0x18 + gprNumber r) imm _ (omega arith) h ∙
+    by-gprs (λ r. decodeBytes (encodeOf (Puth r imm)) (0x18 + gprNumber r) imm) (λ r. gives (Puth r imm)) refl r
+
+high : (r : GeneralPurposeRegister) → gprAt (8 + gprNumber r) ≡ r
+high r = by-gprs (λ r. gprAt (8 + gprNumber r)) (λ r. r) refl r
+
+spread : (r : GeneralPurposeRegister) (offset : ℕ) → decodeOf (encodeOf (Spread r offset)) ≡ gives (Spread r (offset % 16))
+spread r offset =
+    let s = small r in
+    let lo : ℕ = gprNumber r * 16 + offset % 16 in
+    let ep : lo / 16 ≡ gprNumber r = omega arith in
+    let eo : lo % 16 ≡ offset % 16 = omega arith in
+    bytes 0x30 lo (encodeOf (Spread r offset)) (omega arith) (omega arith) ∙
+    simp (lt-ltb lo 0x80 (omega arith), ep, eo, number r)
+
+spwrite : (r : GeneralPurposeRegister) (offset : ℕ) → decodeOf (encodeOf (Spwrite offset r)) ≡ gives (Spwrite (offset % 16) r)
+spwrite r offset =
+    let s = small r in
+    let lo : ℕ = 0x80 + gprNumber r * 16 + offset % 16 in
+    let ep : lo / 16 ≡ 8 + gprNumber r = omega arith in
+    let eo : lo % 16 ≡ offset % 16 = omega arith in
+    bytes 0x30 lo (encodeOf (Spwrite offset r)) (omega arith) (omega arith) ∙
+    simp (le-ltb lo 0x80 (omega arith), ep, eo, high r)
+
+-- an instruction is what its word decodes to, but for a spread or spwrite offset above 15
+decode-encode : (i : Instruction) → byteOf i < 256 → decodeOf (encodeOf i) ≡ gives (reduced i)
+unfolding decodeOf
+decode-encode Nop h = refl
+decode-encode Hlt h = refl
+decode-encode (Mov dest src) h = pairs-gg Mov refl dest src
+decode-encode (DMov dest src) h = pairs-dd DMov refl dest src
+decode-encode (Putl reg imm) h = putl reg imm h
+decode-encode (Puth reg imm) h = puth reg imm h
+decode-encode (Read val addr) h = pairs-gg Read refl val addr
+decode-encode (Write addr val) h = pairs-gg Write refl addr val
+decode-encode (Spread val offset) h = spread val offset
+decode-encode (Spwrite offset val) h = spwrite val offset
+decode-encode (DRead val addr) h = pairs-dg DRead refl val addr
+decode-encode (DWrite addr val) h = pairs-gd DWrite refl addr val
+decode-encode (Push val) h = ones Push refl val
+decode-encode (Pop val) h = ones Pop refl val
+decode-encode (Movso dest src) h = pairs-gs Movso refl dest src
+decode-encode (Movsi dest src) h = pairs-sg Movsi refl dest src
+decode-encode (Spadd val) h = ones Spadd refl val
+decode-encode Spinc h = refl
+decode-encode Spdec h = refl
+decode-encode (Not reg) h = ones Not refl reg
+decode-encode (And reg val) h = pairs-gg And refl reg val
+decode-encode (Booland reg val) h = pairs-gg Booland refl reg val
+decode-encode (Or reg val) h = pairs-gg Or refl reg val
+decode-encode (Xor reg val) h = pairs-gg Xor refl reg val
+decode-encode (Shl reg val) h = pairs-gg Shl refl reg val
+decode-encode (Shr reg val) h = pairs-gg Shr refl reg val
+decode-encode (Bitset reg idx) h = pairs-gg Bitset refl reg idx
+decode-encode (Neg reg) h = ones Neg refl reg
+decode-encode (Inc reg) h = ones Inc refl reg
+decode-encode (Dec reg) h = ones Dec refl reg
+decode-encode (Add reg val) h = pairs-gg Add refl reg val
+decode-encode (Sub reg val) h = pairs-gg Sub refl reg val
+decode-encode (Mul reg val) h = pairs-gg Mul refl reg val
+decode-encode Inv h = refl
+decode-encode (Eqz reg) h = ones Eqz refl reg
+decode-encode (Eq left right) h = pairs-gg Eq refl left right
+decode-encode (Gt left right) h = pairs-gg Gt refl left right
+decode-encode (Gteq left right) h = pairs-gg Gteq refl left right
+decode-encode (Jmpoff offset) h = bytes 0x60 offset (encodeOf (Jmpoff offset)) (omega arith) h
+decode-encode (Cjmpoff offset) h = bytes 0x61 offset (encodeOf (Cjmpoff offset)) (omega arith) h
+decode-encode (Cjmp src) h = ones Cjmp refl src
+decode-encode (Call src) h = ones Call refl src
+decode-encode Ret h = refl
+
+pub inverse : Inverse
+inverse = record { decode-encode = decode-encode; encode-decode = encode-decode; undecodable = undecodable }

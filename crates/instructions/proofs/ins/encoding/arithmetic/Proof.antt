@@ -1,0 +1,53 @@
+-- `arithmetic` meets its contract.
+-- Assumes nothing.
+use mathlib.Core.Path.{_≡_, _∙_}
+use Prim.Native.Nat.{ℕ, _/_, _%_}
+use native.Mathlib.Omega.{arith}
+use borrow.Author.Needs.{needs}
+use borrow.Author.Tests.{lt-ltb, le-ltb, eq-eqb, ne-eqb}
+use Rattle.instructions.proofs.ins.encoding.arithmetic.Statement.{statement}
+use Rattle.instructions.proofs.ins.encoding.arithmetic.Tie as tie
+
+returns : tie.Need-returns
+returns c = rw (c .before .match .keys1) (simp (eq-eqb (c .before .before .args .lo / 8) 0 (omega arith)))
+
+returns-2 : tie.Need-returns-2
+returns-2 c = rw (c .before .before .before .match .keys1) (simp (ne-eqb (c .before .before .before .before .args .lo / 8) 0 (omega arith), eq-eqb (c .before .before .before .before .args .lo / 8) 2 (omega arith)))
+
+returns-3 : tie.Need-returns-3
+returns-3 c = rw (c .before .before .before .before .before .match .keys1) (simp (ne-eqb (c .before .before .before .before .before .before .args .lo / 8) 0 (omega arith), ne-eqb (c .before .before .before .before .before .before .args .lo / 8) 2 (omega arith), eq-eqb (c .before .before .before .before .before .before .args .lo / 8) 4 (omega arith)))
+
+returns-4 : tie.Need-returns-4
+returns-4 c = rw (c .before .before .match .keys1) (simp (ne-eqb (c .before .before .before .args .lo / 8) 0 (omega arith), ne-eqb (c .before .before .before .args .lo / 8) 2 (omega arith), ne-eqb (c .before .before .before .args .lo / 8) 4 (omega arith)))
+
+returns-5 : tie.Need-returns-5
+returns-5 c = rw (c .before .before .before .before .match .keys1) (simp (ne-eqb (c .before .before .before .before .before .args .lo / 8) 0 (omega arith), ne-eqb (c .before .before .before .before .before .args .lo / 8) 2 (omega arith), ne-eqb (c .before .before .before .before .before .args .lo / 8) 4 (omega arith)))
+
+returns-6 : tie.Need-returns-6
+returns-6 c = rw (c .before .before .before .before .before .match .keys1) (simp (ne-eqb (c .before .before .before .before .before .before .args .lo / 8) 0 (omega arith), ne-eqb (c .before .before .before .before .before .before .args .lo / 8) 2 (omega arith), ne-eqb (c .before .before .before .before .before .before .args .lo / 8) 4 (omega arith)))
+
+returns-7 : tie.Need-returns-7
+returns-7 c = rw (c .before .match .keys2) (c .paired .ensures)
+
+returns-8 : tie.Need-returns-8
+returns-8 c = rw (c .before .match .keys3) (c .paired2 .ensures)
+
+returns-9 : tie.Need-returns-9
+returns-9 c = simp (ne-eqb _ _ (c .before .match .rest .1), ne-eqb _ _ (c .before .match .rest .0 .1), ne-eqb _ _ (c .before .match .rest .0 .0 .1)) (c .paired3 .ensures)
+
+pub arithmetic-spec : {M : Type 1} → statement M
+arithmetic-spec =
+    tie.close
+    (tie.spec
+    (λ c κs. search needs)
+    (λ c κs. search needs)
+    (λ c κs. search needs)
+    returns
+    returns-2
+    returns-3
+    returns-4
+    returns-5
+    returns-6
+    returns-7
+    returns-8
+    returns-9)

@@ -1,0 +1,5 @@
+pub mod Answer
+pub mod Choice
+pub mod Decoding
+pub mod Encoding
+pub mod Reg
