@@ -1,0 +1,4 @@
+pub mod Execute
+pub mod Flags
+pub mod Registers
+pub mod Word
