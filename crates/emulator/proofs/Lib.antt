@@ -1,0 +1,7 @@
+pub mod Cases
+pub mod Marks
+pub mod Laws
+pub mod Keeps
+pub mod Runs
+pub mod Agreement
+pub mod Examples

@@ -1,0 +1,40 @@
+-- `emulator::cycle::turns` meets its contract: a law for each way through the loop. The invariant: what is left of the run is the whole
+-- run. The measure is what is left of the limit.
+use Prim.Native.Nat.{_-_}
+use borrow.Author.Needs.{needs}
+use Rattle.emulator.specs.Core.{coreOf}
+use Rattle.emulator.proofs.Runs.{Running, running-start, running-step, end-halted, end-limit, end-fault}
+use Rattle.emulator.proofs.cycle.turns.Statement.{statement}
+use Rattle.emulator.proofs.cycle.turns.Tie as tie
+
+abbrev Inv-loop : tie.InvT-loop
+Inv-loop gprs₀ ip rp sp ef memory₀ marks₀ limit at-ip₀ at-rp₀ at-sp₀ at-ef₀ steps₀ gprs memory marks at-ip at-rp at-sp at-ef steps =
+    Running limit (coreOf gprs₀ ip rp sp ef) memory₀ marks₀ (coreOf gprs at-ip at-rp at-sp at-ef) memory marks steps
+
+abbrev μ-loop : tie.MeasureT-loop
+μ-loop gprs₀ ip rp sp ef memory₀ marks₀ limit at-ip₀ at-rp₀ at-sp₀ at-ef₀ steps₀ gprs memory marks at-ip at-rp at-sp at-ef steps =
+    limit - steps
+
+pub turns-spec : {M : Type 1} → statement M
+turns-spec =
+    tie.close
+    (tie.spec
+    Inv-loop
+    μ-loop
+    (λ c. search running-start)
+    (λ c κs. search needs)
+    (λ c κs. search needs)
+    (λ c. search needs)
+    (λ c. search needs)
+    (λ c. search needs)
+    (λ c. search running-step)
+    (λ c. search needs)
+    (λ c. search needs)
+    (λ c. search needs)
+    (λ c. search end-halted)
+    (λ c. search needs)
+    (λ c. search needs)
+    (λ c. search end-limit)
+    (λ c. search needs)
+    (λ c. search needs)
+    (λ c. search end-fault))

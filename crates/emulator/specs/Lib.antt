@@ -1,0 +1,5 @@
+pub mod Core
+pub mod Memory
+pub mod Outcome
+pub mod Machine
+pub mod Agreement

@@ -1,0 +1,221 @@
+// One cycle and the loop of cycles. The eight general registers are lent as an array and the others go by value: a whole core that goes
+// by value through every call is copied at each.
+use crate::memory::Read;
+use crate::memory::Written;
+use crate::memory::read_word;
+use crate::memory::write_word;
+use execute::Effect;
+use execute::execute;
+use instructions::Decoded;
+use instructions::Instruction;
+ghost use mathlib.Core.Path.{_≡_};
+ghost use lib.ListN.{length};
+ghost use Rattle.emulator.specs.Core.{coreOf};
+ghost use Rattle.emulator.specs.Outcome.{progressOf, endOf};
+ghost use Rattle.emulator.specs.Machine.{turn, afterOf, accessOf, makeOf, cycleOf, ran, runFrom};
+
+// Why a step stops, with the value that is returned too.
+pub enum Stop {
+    // The word.
+    Undecodable(u16),
+    // The address.
+    OutOfRange(u16),
+    // The word of a decimal instruction.
+    Decimal(u16),
+    // The amount of a shift, or the index of a bit, of 16 or more.
+    Amount(u16),
+    // The word that has no negation, 0x8000.
+    Negation(u16),
+}
+
+// How a run ends. `Refused` has the number of the host test.
+pub enum End {
+    Halted,
+    Limit,
+    Fault(Stop),
+    Refused(u8),
+}
+
+// What a cycle of a core that runs comes to.
+enum Progress {
+    Stepped,
+    Fault(Stop),
+}
+
+// The special registers after a cycle.
+struct Turn {
+    ip: u16,
+    rp: u16,
+    sp: u16,
+    ef: u16,
+    progress: Progress,
+}
+
+// The special registers after the loop.
+pub struct Ended {
+    pub ip: u16,
+    pub rp: u16,
+    pub sp: u16,
+    pub ef: u16,
+    pub steps: u32,
+    pub end: End,
+}
+
+// The special registers after a cycle that stepped, and after one that faulted.
+fn stepped(ip: u16, rp: u16, sp: u16, ef: u16) -> Turn
+    ensures { λ r. ⌜ r ≡ record { ip = ip; rp = rp; sp = sp; ef = ef; progress = Progress.Stepped } ⌝ }
+{
+    Turn {
+        ip,
+        rp,
+        sp,
+        ef,
+        progress: Progress::Stepped,
+    }
+}
+
+fn faulted(ip: u16, rp: u16, sp: u16, ef: u16, stop: Stop) -> Turn
+    ensures { λ r. ⌜ r ≡ record { ip = ip; rp = rp; sp = sp; ef = ef; progress = Progress.Fault stop } ⌝ }
+{
+    Turn {
+        ip,
+        rp,
+        sp,
+        ef,
+        progress: Progress::Fault(stop),
+    }
+}
+
+// Changes the registers as the effect says, and makes its access.
+fn apply(
+    effect: Effect,
+    gprs: &mut [u16; 8],
+    ip: u16,
+    rp: u16,
+    sp: u16,
+    ef: u16,
+    memory: &mut [u16],
+    marks: &mut [u8],
+) -> Turn
+    requires { ⌜ length (now marks) ≡ length (now memory) ⌝ }
+    ensures { λ r. ⌜ turn (progressOf (r .progress)) (coreOf (now (gprs .exit)) (r .ip) (r .rp) (r .sp) (r .ef)) (now (memory .exit)) (now (marks .exit)) ≡ makeOf (afterOf (coreOf (now (gprs .entry)) ip rp sp ef) effect) (accessOf effect) (now (memory .entry)) (now (marks .entry)) ⌝ }
+{
+    match effect {
+        Effect::None => stepped(ip, rp, sp, ef),
+        Effect::Gpr(reg, value) => {
+            let i = reg.encode() as usize;
+            gprs[i] = value;
+            stepped(ip, rp, sp, ef)
+        }
+        Effect::Ip(value) => stepped(value, rp, sp, ef),
+        Effect::Rp(value) => stepped(ip, value, sp, ef),
+        Effect::Sp(value) => stepped(ip, rp, value, ef),
+        Effect::Ef(value) => stepped(ip, rp, sp, value),
+        Effect::Call(address) => stepped(address, ip, sp, ef),
+        Effect::Load {
+            address,
+            into,
+            raise,
+        } => match read_word(memory, marks, address) {
+            Read::Word(word) => {
+                let i = into.encode() as usize;
+                gprs[i] = word;
+                stepped(ip, rp, execute::add(sp, raise), ef)
+            }
+            Read::Outside => faulted(ip, rp, sp, ef, Stop::OutOfRange(address)),
+        },
+        Effect::Store {
+            address,
+            value,
+            lower,
+        } => {
+            let lowered = execute::sub(sp, lower);
+            match write_word(memory, marks, address, value) {
+                Written::Done => stepped(ip, rp, lowered, ef),
+                Written::Outside => faulted(ip, rp, lowered, ef, Stop::OutOfRange(address)),
+            }
+        }
+        Effect::Decimal(word) => faulted(ip, rp, sp, ef, Stop::Decimal(word)),
+        Effect::Amount(amount) => faulted(ip, rp, sp, ef, Stop::Amount(amount)),
+        Effect::Negation(value) => faulted(ip, rp, sp, ef, Stop::Negation(value)),
+    }
+}
+
+// Fetches at ip, advances ip, decodes, executes, and applies the effect.
+fn cycle(
+    gprs: &mut [u16; 8],
+    ip: u16,
+    rp: u16,
+    sp: u16,
+    ef: u16,
+    memory: &mut [u16],
+    marks: &mut [u8],
+) -> Turn
+    requires { ⌜ length (now marks) ≡ length (now memory) ⌝ }
+    ensures { λ r. ⌜ turn (progressOf (r .progress)) (coreOf (now (gprs .exit)) (r .ip) (r .rp) (r .sp) (r .ef)) (now (memory .exit)) (now (marks .exit)) ≡ cycleOf (coreOf (now (gprs .entry)) ip rp sp ef) (now (memory .entry)) (now (marks .entry)) ⌝ }
+{
+    match read_word(memory, marks, ip) {
+        Read::Outside => faulted(ip, rp, sp, ef, Stop::OutOfRange(ip)),
+        Read::Word(word) => {
+            let next = execute::add(ip, 1);
+            match Instruction::decode(word) {
+                Decoded::Undecodable(w) => faulted(next, rp, sp, ef, Stop::Undecodable(w)),
+                Decoded::Ins(ins) => {
+                    let effect = execute(ins, word, gprs, next, rp, sp, ef);
+                    apply(effect, gprs, next, rp, sp, ef, memory, marks)
+                }
+            }
+        }
+    }
+}
+
+// Cycles up to the limit: each turn tests halt first, then the limit. A cycle that faults isn't counted.
+pub fn turns(
+    gprs: &mut [u16; 8],
+    ip: u16,
+    rp: u16,
+    sp: u16,
+    ef: u16,
+    memory: &mut [u16],
+    marks: &mut [u8],
+    limit: u32,
+) -> Ended
+    requires { ⌜ length (now marks) ≡ length (now memory) ⌝ }
+    ensures { λ r. ⌜ ran (endOf (r .end)) (r .steps) (coreOf (now (gprs .exit)) (r .ip) (r .rp) (r .sp) (r .ef)) (now (memory .exit)) (now (marks .exit)) ≡ runFrom limit 0 (coreOf (now (gprs .entry)) ip rp sp ef) (now (memory .entry)) (now (marks .entry)) ⌝ }
+{
+    let mut at_ip = ip;
+    let mut at_rp = rp;
+    let mut at_sp = sp;
+    let mut at_ef = ef;
+    let mut steps: u32 = 0;
+    let end = loop {
+        if execute::is_halted(at_ef) {
+            break End::Halted;
+        }
+        if steps == limit {
+            break End::Limit;
+        }
+        let t = cycle(gprs, at_ip, at_rp, at_sp, at_ef, memory, marks);
+        at_ip = t.ip;
+        at_rp = t.rp;
+        at_sp = t.sp;
+        at_ef = t.ef;
+        let progress = t.progress;
+        match progress {
+            Progress::Stepped => {
+                steps += 1;
+            }
+            Progress::Fault(stop) => {
+                break End::Fault(stop);
+            }
+        }
+    };
+    Ended {
+        ip: at_ip,
+        rp: at_rp,
+        sp: at_sp,
+        ef: at_ef,
+        steps,
+        end,
+    }
+}
