@@ -1,13 +1,13 @@
 // The words of the instructions.
 use crate::ins::Instruction;
-use crate::ins::InstructionOpcode;
 use crate::reg::DR;
 use crate::reg::GPR;
 use crate::reg::SPR;
+use opcode::InstructionOpcode;
 ghost use mathlib.Core.Path.{_≡_};
 ghost use Prim.Native.Nat.{_<_};
 ghost use Rattle.instructions.specs.Encoding.{encodeOf, pairOf, slotOf, immediateOf};
-ghost use Rattle.instructions.specs.Decoding.{pairedOf, memoryOf, movesOf, stackOf, andsOf, bitsOf, arithmeticOf, comparisonOf, branchOf, opcodeOf, instructionOf, answerOf, decodeOf};
+ghost use Rattle.instructions.specs.Decoding.{instructionOf, answerOf, decodeOf};
 
 // What decoding a word answers.
 pub enum Decoded {
@@ -84,7 +84,7 @@ impl Instruction {
     pub fn decode(bits: u16) -> Decoded
         ensures { λ r. ⌜ answerOf r ≡ decodeOf bits ⌝ }
     {
-        with_operands(opcode(bits / 256, bits % 256), bits)
+        with_operands(opcode::opcode(bits / 256, bits % 256), bits)
     }
 }
 
@@ -109,209 +109,15 @@ fn immediate(reg: GPR, imm: u8) -> u16
     reg.encode() * 256 + imm as u16
 }
 
-// The opcode, by ranges of the upper byte and then of the lower byte.
-fn opcode(hi: u16, lo: u16) -> InstructionOpcode
-    ensures { λ r. ⌜ r ≡ opcodeOf hi lo ⌝ }
-{
-    match hi {
-        0x00 => match lo {
-            0x00 => InstructionOpcode::Nop,
-            _ => InstructionOpcode::Undecodable,
-        },
-        0x10..=0x17 => InstructionOpcode::Putl,
-        0x18..=0x1F => InstructionOpcode::Puth,
-        0x20 => memory(lo),
-        0x21 => moves(lo),
-        0x22..=0x23 => stack(hi, lo),
-        0x30 => match lo {
-            0x00..=0x7F => InstructionOpcode::Spread,
-            _ => InstructionOpcode::Spwrite,
-        },
-        0x40..=0x47 => bits(hi, lo),
-        0x48..=0x4B => arithmetic(hi, lo),
-        0x50..=0x53 => comparison(hi, lo),
-        0x60..=0x63 => branch(hi, lo),
-        0xFF => match lo {
-            0xFF => InstructionOpcode::Hlt,
-            _ => InstructionOpcode::Undecodable,
-        },
-        _ => InstructionOpcode::Undecodable,
-    }
-}
-
-// The upper byte 0x20: 0aaa0rrr, 0aaa10dd, 1aaa0rrr, 1aaa10dd.
-fn memory(lo: u16) -> InstructionOpcode
-    ensures { λ r. ⌜ r ≡ memoryOf lo ⌝ }
-{
-    match lo {
-        0x00..=0x7F => match lo % 16 {
-            0x0..=0x7 => InstructionOpcode::Read,
-            0x8..=0xB => InstructionOpcode::DRead,
-            _ => InstructionOpcode::Undecodable,
-        },
-        _ => match lo % 16 {
-            0x0..=0x7 => InstructionOpcode::Write,
-            0x8..=0xB => InstructionOpcode::DWrite,
-            _ => InstructionOpcode::Undecodable,
-        },
-    }
-}
-
-// The upper byte 0x21: 0sss0ddd, 00ss10dd, 10ss0ddd, 11dd0sss, 11011rrr.
-fn moves(lo: u16) -> InstructionOpcode
-    ensures { λ r. ⌜ r ≡ movesOf lo ⌝ }
-{
-    match lo {
-        0x00..=0x3F => match lo % 16 {
-            0x0..=0x7 => InstructionOpcode::Mov,
-            0x8..=0xB => InstructionOpcode::DMov,
-            _ => InstructionOpcode::Undecodable,
-        },
-        0x40..=0x7F => match lo % 16 {
-            0x0..=0x7 => InstructionOpcode::Mov,
-            _ => InstructionOpcode::Undecodable,
-        },
-        0x80..=0xBF => match lo % 16 {
-            0x0..=0x7 => InstructionOpcode::Movso,
-            _ => InstructionOpcode::Undecodable,
-        },
-        0xD8..=0xDF => InstructionOpcode::Spadd,
-        _ => match lo % 16 {
-            0x0..=0x7 => InstructionOpcode::Movsi,
-            _ => InstructionOpcode::Undecodable,
-        },
-    }
-}
-
-// The upper bytes 0x22 and 0x23.
-fn stack(hi: u16, lo: u16) -> InstructionOpcode
-    ensures { λ r. ⌜ r ≡ stackOf hi lo ⌝ }
-{
-    match hi {
-        0x22 => match lo {
-            0xD0 => InstructionOpcode::Spinc,
-            0xD1 => InstructionOpcode::Spdec,
-            _ => InstructionOpcode::Undecodable,
-        },
-        _ => match lo {
-            0xD0..=0xD7 => InstructionOpcode::Push,
-            0xD8..=0xDF => InstructionOpcode::Pop,
-            _ => InstructionOpcode::Undecodable,
-        },
-    }
-}
-
-// Two registers, 0ppp0qqq, under an upper byte with one opcode.
-fn paired(lo: u16, opcode: InstructionOpcode) -> InstructionOpcode
-    ensures { λ r. ⌜ r ≡ pairedOf opcode lo ⌝ }
-{
-    match lo {
-        0x00..=0x7F => match lo % 16 {
-            0x0..=0x7 => opcode,
-            _ => InstructionOpcode::Undecodable,
-        },
-        _ => InstructionOpcode::Undecodable,
-    }
-}
-
-// The upper byte 0x41: 0xxx0rrr, 1xxx0rrr.
-fn ands(lo: u16) -> InstructionOpcode
-    ensures { λ r. ⌜ r ≡ andsOf lo ⌝ }
-{
-    match lo % 16 {
-        0x0..=0x7 => match lo {
-            0x00..=0x7F => InstructionOpcode::And,
-            _ => InstructionOpcode::Booland,
-        },
-        _ => InstructionOpcode::Undecodable,
-    }
-}
-
-// The upper bytes 0x40 to 0x47.
-fn bits(hi: u16, lo: u16) -> InstructionOpcode
-    ensures { λ r. ⌜ r ≡ bitsOf hi lo ⌝ }
-{
-    match hi {
-        0x40 => match lo {
-            0x00..=0x07 => InstructionOpcode::Not,
-            _ => InstructionOpcode::Undecodable,
-        },
-        0x41 => ands(lo),
-        0x42 => paired(lo, InstructionOpcode::Or),
-        0x43 => paired(lo, InstructionOpcode::Xor),
-        0x44 => paired(lo, InstructionOpcode::Shl),
-        0x45 => paired(lo, InstructionOpcode::Shr),
-        0x47 => paired(lo, InstructionOpcode::Bitset),
-        _ => InstructionOpcode::Undecodable,
-    }
-}
-
-// The upper bytes 0x48 to 0x4B.
-fn arithmetic(hi: u16, lo: u16) -> InstructionOpcode
-    ensures { λ r. ⌜ r ≡ arithmeticOf hi lo ⌝ }
-{
-    match hi {
-        0x48 => match lo {
-            0x00..=0x07 => InstructionOpcode::Neg,
-            0x10..=0x17 => InstructionOpcode::Inc,
-            0x20..=0x27 => InstructionOpcode::Dec,
-            _ => InstructionOpcode::Undecodable,
-        },
-        0x49 => paired(lo, InstructionOpcode::Add),
-        0x4A => paired(lo, InstructionOpcode::Sub),
-        _ => paired(lo, InstructionOpcode::Mul),
-    }
-}
-
-// The upper bytes 0x50 to 0x53.
-fn comparison(hi: u16, lo: u16) -> InstructionOpcode
-    ensures { λ r. ⌜ r ≡ comparisonOf hi lo ⌝ }
-{
-    match hi {
-        0x50 => match lo {
-            0x00 => InstructionOpcode::Inv,
-            0x10..=0x17 => InstructionOpcode::Eqz,
-            _ => InstructionOpcode::Undecodable,
-        },
-        0x51 => paired(lo, InstructionOpcode::Eq),
-        0x52 => paired(lo, InstructionOpcode::Gt),
-        _ => paired(lo, InstructionOpcode::Gteq),
-    }
-}
-
-// The upper bytes 0x60 to 0x63.
-fn branch(hi: u16, lo: u16) -> InstructionOpcode
-    ensures { λ r. ⌜ r ≡ branchOf hi lo ⌝ }
-{
-    match hi {
-        0x60 => InstructionOpcode::Jmpoff,
-        0x61 => InstructionOpcode::Cjmpoff,
-        0x62 => match lo {
-            0x10..=0x17 => InstructionOpcode::Call,
-            0x18 => InstructionOpcode::Ret,
-            _ => InstructionOpcode::Undecodable,
-        },
-        _ => match lo {
-            0x00..=0x07 => InstructionOpcode::Cjmp,
-            _ => InstructionOpcode::Undecodable,
-        },
-    }
-}
-
 // The instruction with this opcode, with the operands that the word holds.
 fn with_operands(opcode: InstructionOpcode, bits: u16) -> Decoded
     ensures { λ r. ⌜ answerOf r ≡ instructionOf opcode bits ⌝ }
 {
     let hi = bits / 256;
     let lo = bits % 256;
-    let upper = GPR::from_low_bits(hi);
     let p = GPR::from_low_bits(lo / 16);
     let q = GPR::from_low_bits(lo);
-    let special = SPR::from_low_bits(lo / 16);
-    let dp = DR::from_low_bits(lo / 16);
-    let dq = DR::from_low_bits(lo);
     let byte = lo as u8;
-    let nibble = (lo % 16) as u8;
     let ins = match opcode {
         InstructionOpcode::Undecodable => return Decoded::Undecodable(bits),
 
@@ -319,15 +125,18 @@ fn with_operands(opcode: InstructionOpcode, bits: u16) -> Decoded
         InstructionOpcode::Nop => Instruction::Nop,
         InstructionOpcode::Hlt => Instruction::Hlt,
         InstructionOpcode::Mov => Instruction::Mov { dest: q, src: p },
-        InstructionOpcode::DMov => Instruction::DMov { dest: dq, src: dp },
+        InstructionOpcode::DMov => Instruction::DMov {
+            dest: DR::from_low_bits(lo),
+            src: DR::from_low_bits(lo / 16),
+        },
 
         // Immediate loads
         InstructionOpcode::Putl => Instruction::Putl {
-            reg: upper,
+            reg: GPR::from_low_bits(hi),
             imm: byte,
         },
         InstructionOpcode::Puth => Instruction::Puth {
-            reg: upper,
+            reg: GPR::from_low_bits(hi),
             imm: byte,
         },
 
@@ -336,24 +145,30 @@ fn with_operands(opcode: InstructionOpcode, bits: u16) -> Decoded
         InstructionOpcode::Write => Instruction::Write { addr: p, val: q },
         InstructionOpcode::Spread => Instruction::Spread {
             val: p,
-            offset: nibble,
+            offset: (lo % 16) as u8,
         },
         InstructionOpcode::Spwrite => Instruction::Spwrite {
-            offset: nibble,
+            offset: (lo % 16) as u8,
             val: p,
         },
-        InstructionOpcode::DRead => Instruction::DRead { val: dq, addr: p },
-        InstructionOpcode::DWrite => Instruction::DWrite { addr: p, val: dq },
+        InstructionOpcode::DRead => Instruction::DRead {
+            val: DR::from_low_bits(lo),
+            addr: p,
+        },
+        InstructionOpcode::DWrite => Instruction::DWrite {
+            addr: p,
+            val: DR::from_low_bits(lo),
+        },
         InstructionOpcode::Push => Instruction::Push { val: q },
         InstructionOpcode::Pop => Instruction::Pop { val: q },
 
         // Special-purpose registers
         InstructionOpcode::Movso => Instruction::Movso {
             dest: q,
-            src: special,
+            src: SPR::from_low_bits(lo / 16),
         },
         InstructionOpcode::Movsi => Instruction::Movsi {
-            dest: special,
+            dest: SPR::from_low_bits(lo / 16),
             src: q,
         },
         InstructionOpcode::Spadd => Instruction::Spadd { val: q },

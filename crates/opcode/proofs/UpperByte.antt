@@ -1,0 +1,62 @@
+-- `opcodeOf` by ranges of the upper byte.
+-- Assumes nothing.
+use mathlib.Core.List.{List, [], _∷_}
+use mathlib.Core.Path.{_≡_}
+use Prim.Native.Nat.{ℕ, _/_, _≤_, _<_}
+use native.Mathlib.Omega.{arith}
+use borrow.Author.Tests.{eq-eqb, ne-eqb}
+use Rattle.opcode.specs.Opcode.{opcodeOf}
+use Rattle.opcode.specs.declared.InstructionOpcode.the-variants.{Putl, Puth, Undecodable}
+
+module _ (hi lo : ℕ) where
+  pub is-putl : 0x10 ≤ hi → hi < 0x18 → Putl ≡ opcodeOf hi lo
+  is-putl l h = simp (ne-eqb hi 0 (omega arith), eq-eqb (hi / 8) 2 (omega arith))
+
+  pub is-puth : 0x18 ≤ hi → hi < 0x20 → Puth ≡ opcodeOf hi lo
+  is-puth l h = simp (ne-eqb hi 0 (omega arith), ne-eqb (hi / 8) 2 (omega arith), eq-eqb (hi / 8) 3 (omega arith))
+
+-- hi is none of the keys, as a match tells it of its last arm
+abbrev pub NoneOf : ℕ → List ℕ → Type 0
+NoneOf hi [] = Unit {0}
+NoneOf hi (k ∷ ks) = NoneOf hi ks × (hi ≡ k → ⊥)
+
+-- the upper bytes that stand alone, the last first
+abbrev pub alone : List ℕ
+alone =
+    0xFF ∷ 0x63 ∷ 0x62 ∷ 0x61 ∷ 0x60 ∷ 0x53 ∷ 0x52 ∷ 0x51 ∷ 0x50 ∷ 0x4B ∷ 0x4A ∷ 0x49 ∷ 0x48 ∷ 0x47
+    ∷ 0x45 ∷ 0x44 ∷ 0x43 ∷ 0x42 ∷ 0x41 ∷ 0x40 ∷ 0x30 ∷ 0x23 ∷ 0x22 ∷ 0x21 ∷ 0x20 ∷ 0x00 ∷ []
+
+-- an upper byte that is none of these, and in neither range
+pub is-undecodable : (hi lo : ℕ) → (hi / 8 ≡ 2 → ⊥) → (hi / 8 ≡ 3 → ⊥) → NoneOf hi alone → Undecodable ≡ opcodeOf hi lo
+is-undecodable hi lo two three
+    ((((((((((((((((((((((((((_, n00), n20), n21), n22), n23), n30), n40), n41), n42), n43), n44), n45), n47), n48), n49), n4A), n4B), n50), n51), n52), n53), n60), n61), n62), n63), nFF) =
+    simp (
+      ne-eqb _ _ n00,
+      ne-eqb _ _ two,
+      ne-eqb _ _ three,
+      ne-eqb _ _ n20,
+      ne-eqb _ _ n21,
+      ne-eqb _ _ n22,
+      ne-eqb _ _ n23,
+      ne-eqb _ _ n30,
+      ne-eqb _ _ n40,
+      ne-eqb _ _ n41,
+      ne-eqb _ _ n42,
+      ne-eqb _ _ n43,
+      ne-eqb _ _ n44,
+      ne-eqb _ _ n45,
+      ne-eqb _ _ n47,
+      ne-eqb _ _ n48,
+      ne-eqb _ _ n49,
+      ne-eqb _ _ n4A,
+      ne-eqb _ _ n4B,
+      ne-eqb _ _ n50,
+      ne-eqb _ _ n51,
+      ne-eqb _ _ n52,
+      ne-eqb _ _ n53,
+      ne-eqb _ _ n60,
+      ne-eqb _ _ n61,
+      ne-eqb _ _ n62,
+      ne-eqb _ _ n63,
+      ne-eqb _ _ nFF,
+    )

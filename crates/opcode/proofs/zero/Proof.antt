@@ -1,0 +1,30 @@
+-- `zero` meets its contract.
+-- Assumes nothing.
+use mathlib.Core.Path.{_≡_, _∙_}
+use Prim.Native.Nat.{ℕ, _/_, _%_}
+use native.Mathlib.Omega.{arith}
+use borrow.Author.Needs.{needs}
+use borrow.Author.Tests.{lt-ltb, le-ltb, eq-eqb, ne-eqb}
+use Rattle.opcode.proofs.zero.Statement.{statement}
+use Rattle.opcode.proofs.zero.Tie as tie
+
+returns : tie.Need-returns
+returns c = rw (c .match .keys1)
+
+returns-2 : tie.Need-returns-2
+returns-2 c = simp (ne-eqb (c .before .before .before .args .lo) 0 (c .before .before .match .rest .1), eq-eqb (c .before .before .before .args .lo / 8) 2 (omega arith))
+
+returns-3 : tie.Need-returns-3
+returns-3 c = simp (ne-eqb (c .before .before .args .lo) 0 (c .before .match .rest .1), ne-eqb (c .before .before .args .lo / 8) 2 (omega arith))
+
+returns-4 : tie.Need-returns-4
+returns-4 c = simp (ne-eqb (c .before .before .before .args .lo) 0 (c .before .before .match .rest .1), ne-eqb (c .before .before .before .args .lo / 8) 2 (omega arith))
+
+pub zero-spec : {M : Type 1} → statement M
+zero-spec =
+    tie.close
+    (tie.spec
+    returns
+    returns-2
+    returns-3
+    returns-4)

@@ -1,0 +1,26 @@
+-- `sheet::write::write_sheet` meets its contract: a law for each answer.
+use native.Mathlib.Omega.{arith}
+use borrow.Author.Needs.{needs}
+use lib.ListN.{length-set}
+use Rattle.sheet.proofs.WriteLaws.{write-host, write-short, write-done, not-refused}
+use Rattle.sheet.proofs.write.write_sheet.Statement.{statement}
+use Rattle.sheet.proofs.write.write_sheet.Tie as tie
+
+pub write-sheet-spec : {M : Type 1} → statement M
+write-sheet-spec =
+    tie.close
+    (tie.spec
+    (λ c κs. search needs)
+    (λ c. search write-host)
+    (λ c κs. search not-refused)
+    (λ c κs. search needs)
+    (λ c. omega arith)
+    (λ c. search write-short)
+    (λ c κs. search needs)
+    (λ c κs. (search not-refused, omega arith))
+    (λ c. omega arith)
+    (λ c. search needs)
+    (λ c. search needs)
+    (λ c. search needs)
+    (λ c. simp length-set (omega arith))
+    (λ c. search write-done))

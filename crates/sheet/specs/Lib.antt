@@ -1,0 +1,6 @@
+pub mod Outcome
+pub mod Record
+pub mod Load
+pub mod Write
+pub mod Input
+pub mod RoundTrip

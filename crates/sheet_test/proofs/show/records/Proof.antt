@@ -1,0 +1,28 @@
+-- `sheet_test::show::records` is safe and ends.
+use Prim.Native.Nat.{_-_, _≤_}
+use native.Mathlib.Omega.{arith}
+use lib.ListN.{length}
+use borrow.Author.Needs.{needs}
+use Rattle.sheet_test.proofs.show.records.Statement.{statement}
+use Rattle.sheet_test.proofs.show.records.Tie as tie
+
+abbrev Inv-loop : tie.InvT-loop
+Inv-loop list i₀ i = i ≤ length list
+
+abbrev μ-loop : tie.MeasureT-loop
+μ-loop list i₀ i = length list - i
+
+pub records-spec : {M : Type 1} → statement M
+records-spec =
+    tie.close
+    (tie.spec
+    Inv-loop
+    μ-loop
+    (λ c. omega arith)
+    (λ c. search needs)
+    (λ c. search needs)
+    (λ c κs. search needs)
+    (λ c. omega arith)
+    (λ c. omega arith)
+    (λ c. omega arith)
+    (λ c. search needs))
