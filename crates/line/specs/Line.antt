@@ -1,0 +1,82 @@
+-- The line that `berth` prints (document 01, the program).
+use Prim.Native.Nat.{ℕ}
+use mathlib.Core.List.{List, [], _∷_, _++_}
+use lib.ListN.{take, replicate}
+use Rattle.emulator.specs.declared.core.Core.{Core}
+use Rattle.emulator.specs.Outcome as emulator
+use Rattle.emulator.specs.Machine.{Ran, runOf}
+use Rattle.sheet.specs.Outcome as sheet
+use Rattle.sheet.specs.Load.{Left, loadSheetOf}
+use Rattle.sheet.specs.Write.{Wrote}
+use Rattle.sheet.specs.Input.{inputOf}
+use Rattle.line.specs.Decimal.{decimalOf}
+
+-- the words `halted`, `limit`, `fault` and `refused`
+abbrev pub haltedWord : List ℕ
+haltedWord = 104 ∷ 97 ∷ 108 ∷ 116 ∷ 101 ∷ 100 ∷ []
+
+abbrev pub limitWord : List ℕ
+limitWord = 108 ∷ 105 ∷ 109 ∷ 105 ∷ 116 ∷ []
+
+abbrev pub faultWord : List ℕ
+faultWord = 102 ∷ 97 ∷ 117 ∷ 108 ∷ 116 ∷ []
+
+abbrev pub refusedWord : List ℕ
+refusedWord = 114 ∷ 101 ∷ 102 ∷ 117 ∷ 115 ∷ 101 ∷ 100 ∷ []
+
+-- a number after a space, and each of several
+abbrev pub field : ℕ → List ℕ
+field n = 32 ∷ decimalOf n
+
+unfoldable pub fields : List ℕ → List ℕ
+fields [] = []
+fields (n ∷ ns) = field n ++ fields ns
+
+-- a line: a word, numbers, each after a single space, and a line feed
+unfoldable pub row : List ℕ → List ℕ → List ℕ
+row word ns = word ++ (fields ns ++ 10 ∷ [])
+
+-- steps, ip, rp, sp, ef, r0 to r7
+abbrev pub counts : ℕ → Core → List ℕ
+counts steps c = steps ∷ c .ip ∷ c .rp ∷ c .sp ∷ c .ef ∷ c .gprs
+
+-- `refused` and the number
+abbrev pub refusedLine : ℕ → List ℕ
+refusedLine n = row refusedWord (n ∷ [])
+
+-- the line of a run by its end, a fault with number and value; no run ends as stepped
+unfoldable pub endLine : emulator.Outcome → ℕ → Core → List ℕ
+endLine emulator.stepped steps c = []
+endLine emulator.halted steps c = row haltedWord (counts steps c)
+endLine emulator.limit steps c = row limitWord (counts steps c)
+endLine (emulator.fault n v) steps c = row faultWord (n ∷ v ∷ counts steps c)
+endLine (emulator.refused n) steps c = refusedLine n
+
+abbrev pub ranLine : Ran → List ℕ
+ranLine t = endLine (t .end) (t .steps) (t .core)
+
+-- a sheet loaded: its run, with limit 1,000,000; no load comes out with records
+unfoldable pub loadedLine : sheet.Outcome → Core → List ℕ → List ℕ
+loadedLine sheet.done c mem = ranLine (runOf c mem (replicate 32768 0) 1000000)
+loadedLine (sheet.records n) c mem = []
+loadedLine (sheet.refused n) c mem = refusedLine n
+
+abbrev pub leftLine : Left → List ℕ
+leftLine l = loadedLine (l .outcome) (l .core) (l .memory)
+
+-- a sheet: it is loaded into 32,768 words
+unfoldable pub sheetLine : List ℕ → List ℕ
+sheetLine records = leftLine (loadSheetOf records (replicate 32768 0))
+
+-- the input's records as a sheet; no input comes out as done
+unfoldable pub recordsLine : sheet.Outcome → List ℕ → List ℕ
+recordsLine sheet.done buffer = []
+recordsLine (sheet.records n) buffer = sheetLine (take n buffer)
+recordsLine (sheet.refused n) buffer = refusedLine n
+
+abbrev pub wroteLine : Wrote → List ℕ
+wroteLine w = recordsLine (w .outcome) (w .buffer)
+
+-- the line of an input, whose records are 8,192 at most
+unfoldable pub lineOf : List ℕ → List ℕ
+lineOf input = wroteLine (inputOf input (replicate 8192 0))

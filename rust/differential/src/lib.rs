@@ -1,0 +1,69 @@
+//! The comparison of a machine with the published Rust, and with document 01 where there is no Rust.
+
+pub mod machine;
+pub mod mistakes;
+pub mod model;
+mod pair;
+pub mod programs;
+pub mod random;
+pub mod reference;
+pub mod report;
+mod runs;
+mod sheets;
+pub mod states;
+mod steps;
+mod words;
+
+use machine::Machine;
+use report::Report;
+
+/// How much is compared.
+pub struct Effort {
+    /// States in which each decodable word is stepped, at each memory length.
+    pub states: usize,
+    /// Of the 65,536 values of an operand, each of these many is taken.
+    pub stride: usize,
+    /// Steps in lockstep.
+    pub lockstep: u64,
+    /// Steps of runs with limits.
+    pub runs: u64,
+    /// Steps of each of the five endless loops.
+    pub endless: u32,
+    /// Sheets loaded and written.
+    pub sheets: usize,
+}
+
+pub const FULL: Effort =
+    Effort { states: 60, stride: 1, lockstep: 40_000_000, runs: 20_000_000, endless: 1_000_000, sheets: 400_000 };
+
+pub const SHORT: Effort =
+    Effort { states: 6, stride: 16, lockstep: 2_000_000, runs: 2_000_000, endless: 100_000, sheets: 40_000 };
+
+/// Enough to find a wrong machine.
+pub const CONTROL: Effort =
+    Effort { states: 4, stride: 64, lockstep: 300_000, runs: 300_000, endless: 10_000, sheets: 10_000 };
+
+type Part = fn(&dyn Machine, &Effort, &mut Report);
+
+const PARTS: [Part; 10] = [
+    |machine, _, report| words::decode(machine, report),
+    |machine, _, report| steps::every_edge(machine, report),
+    |machine, effort, report| steps::every_word(machine, effort.states, report),
+    |machine, effort, report| steps::every_value(machine, effort.stride, report),
+    |machine, effort, report| runs::endless(machine, effort.endless, report),
+    |machine, effort, report| runs::limits(machine, effort.runs, report),
+    |machine, effort, report| runs::lockstep(machine, effort.lockstep, report),
+    |machine, _, report| sheets::refusals(machine, report),
+    |machine, effort, report| sheets::sheets(machine, effort.sheets, report),
+    |machine, _, report| words::encode(machine, report),
+];
+
+/// All parts of the comparison; after the first disagreement no further part, where `until_first` is set.
+pub fn compare(machine: &dyn Machine, effort: &Effort, until_first: bool, report: &mut Report) {
+    for part in PARTS {
+        if until_first && report.disagreements > 0 {
+            return;
+        }
+        part(machine, effort, report);
+    }
+}

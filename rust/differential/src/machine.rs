@@ -1,0 +1,72 @@
+//! What the comparison asks of a machine. What a machine does not say for itself is the model of document 01.
+
+use crate::model;
+use nilguseg::{Core, Fault, Instruction, Refusal, Run, Step};
+
+pub trait Machine {
+    fn decode(&self, word: u16) -> Result<Instruction, Fault> {
+        model::decode(word)
+    }
+
+    fn encode(&self, instruction: Instruction) -> Option<u16> {
+        model::encode(instruction)
+    }
+
+    fn step(&self, core: &mut Core, memory: &mut [u16], marks: &mut [u8]) -> Step {
+        model::step(core, memory, marks)
+    }
+
+    fn run(&self, core: &mut Core, memory: &mut [u16], marks: &mut [u8], limit: u32) -> Run {
+        model::run(core, memory, marks, limit)
+    }
+
+    fn load_words(&self, core: &mut Core, words: &[u16], memory: &mut [u16]) -> Result<(), Refusal> {
+        model::load_words(core, words, memory)
+    }
+
+    fn load_sheet(&self, core: &mut Core, sheet: &[u32], memory: &mut [u16]) -> Result<(), Refusal> {
+        model::load_sheet(core, sheet, memory)
+    }
+
+    fn write_sheet(&self, core: &Core, memory: &[u16], sheet: &mut [u32]) -> Result<usize, Refusal> {
+        model::write_sheet(core, memory, sheet)
+    }
+}
+
+/// The model of document 01 itself.
+pub struct Model;
+
+impl Machine for Model {}
+
+/// The host library, through its Rust wrapper.
+pub struct Library;
+
+impl Machine for Library {
+    fn decode(&self, word: u16) -> Result<Instruction, Fault> {
+        nilguseg::decode(word)
+    }
+
+    fn encode(&self, instruction: Instruction) -> Option<u16> {
+        nilguseg::encode(instruction)
+    }
+
+    fn step(&self, core: &mut Core, memory: &mut [u16], marks: &mut [u8]) -> Step {
+        core.step(memory, marks)
+    }
+
+    fn run(&self, core: &mut Core, memory: &mut [u16], marks: &mut [u8], limit: u32) -> Run {
+        core.run(memory, marks, limit)
+    }
+
+    fn load_words(&self, core: &mut Core, words: &[u16], memory: &mut [u16]) -> Result<(), Refusal> {
+        core.load_words(words, memory)
+    }
+
+    fn load_sheet(&self, core: &mut Core, sheet: &[u32], memory: &mut [u16]) -> Result<(), Refusal> {
+        core.load_sheet(sheet, memory)
+    }
+
+    fn write_sheet(&self, core: &Core, memory: &[u16], sheet: &mut [u32]) -> Result<usize, Refusal> {
+        core.write_sheet(memory, sheet)
+    }
+}

@@ -1,0 +1,403 @@
+//! Wrong machines, each the model with one mistake. The comparison must report every one of them; the first
+//! five are the "Mistakes met in such machines" of document 01.
+
+use crate::machine::Machine;
+use crate::model;
+use nilguseg::{kind::*, Core, End, Fault, Instruction, Refusal, Run, Step};
+
+pub struct WrongMachine {
+    pub name: &'static str,
+    mistake: Mistake,
+}
+
+/// What a machine does in place of, or after, what the model does.
+enum Mistake {
+    Decode(fn(u16) -> Result<Instruction, Fault>),
+    Encode(fn(Instruction) -> Option<u16>),
+    Step(fn(&mut Stepped)),
+    Run(fn(&mut Core, &mut [u16], &mut [u8], u32) -> Run),
+    LoadWords(Load<u16>),
+    LoadSheet(Load<u32>),
+    WriteSheet(Write),
+}
+
+type Load<T> = fn(&mut Core, &[T], &mut [u16]) -> Result<(), Refusal>;
+type Write = fn(&Core, &[u16], &mut [u32]) -> Result<usize, Refusal>;
+
+/// A step of the model, to be spoilt.
+struct Stepped<'a> {
+    before: Core,
+    /// The kind of the word fetched and its operands; no kind where none was fetched or it is undecodable.
+    kind: Option<u8>,
+    first: usize,
+    second: usize,
+    /// The address of the access after the fetch, and the mark that it had.
+    address: usize,
+    mark: Option<u8>,
+    core: &'a mut Core,
+    memory: &'a mut [u16],
+    marks: &'a mut [u8],
+    answer: Step,
+}
+
+impl Stepped<'_> {
+    fn is(&self, kind: u8) -> bool {
+        self.kind == Some(kind) && self.answer == Step::Stepped
+    }
+
+    fn fault(&self, number: u8) -> bool {
+        matches!(self.answer, Step::Fault(fault) if fault.number == number)
+    }
+
+    /// The first and the second operand's words before the step.
+    fn operands(&self) -> (u16, u16) {
+        (self.before.r[self.first], self.before.r[self.second])
+    }
+
+    fn fetched(&self) -> bool {
+        !matches!(self.answer, Step::Refused(_) | Step::Halted) && (self.before.ip as usize) < self.memory.len()
+    }
+
+    fn reads(&self) -> bool {
+        self.is(READ) || self.is(SPREAD) || self.is(POP)
+    }
+}
+
+fn wrong_step(step: fn(&mut Stepped), core: &mut Core, memory: &mut [u16], marks: &mut [u8]) -> Step {
+    let before = *core;
+    let fetched = memory.get(core.ip as usize).and_then(|word| model::decode(*word).ok());
+    let (first, second) = fetched.map_or((0, 0), |i| (i.first as usize % 8, i.second as usize % 8));
+    let address = match fetched.map(|instruction| instruction.kind) {
+        Some(READ) => before.r[second],
+        Some(WRITE) => before.r[first],
+        Some(SPREAD) => before.sp.wrapping_add(fetched.unwrap().second as u16),
+        Some(PUSH) => before.sp.wrapping_sub(1),
+        _ => before.sp,
+    } as usize;
+    let mark = marks.get(address).copied();
+    let answer = model::step(core, memory, marks);
+    let kind = fetched.map(|instruction| instruction.kind);
+    let mut stepped = Stepped { before, kind, first, second, address, mark, core, memory, marks, answer };
+    step(&mut stepped);
+    stepped.answer
+}
+
+impl Machine for WrongMachine {
+    fn decode(&self, word: u16) -> Result<Instruction, Fault> {
+        match self.mistake {
+            Mistake::Decode(decode) => decode(word),
+            _ => model::decode(word),
+        }
+    }
+
+    fn encode(&self, instruction: Instruction) -> Option<u16> {
+        match self.mistake {
+            Mistake::Encode(encode) => encode(instruction),
+            _ => model::encode(instruction),
+        }
+    }
+
+    fn step(&self, core: &mut Core, memory: &mut [u16], marks: &mut [u8]) -> Step {
+        match self.mistake {
+            Mistake::Step(step) => wrong_step(step, core, memory, marks),
+            _ => model::step(core, memory, marks),
+        }
+    }
+
+    fn run(&self, core: &mut Core, memory: &mut [u16], marks: &mut [u8], limit: u32) -> Run {
+        let wrong_steps = |core: &mut Core, memory: &mut [u16], marks: &mut [u8]| self.step(core, memory, marks);
+        match self.mistake {
+            Mistake::Run(run) => run(core, memory, marks, limit),
+            Mistake::Step(_) => model::run_by(wrong_steps, core, memory, marks, limit),
+            _ => model::run(core, memory, marks, limit),
+        }
+    }
+
+    fn load_words(&self, core: &mut Core, words: &[u16], memory: &mut [u16]) -> Result<(), Refusal> {
+        match self.mistake {
+            Mistake::LoadWords(load) => load(core, words, memory),
+            _ => model::load_words(core, words, memory),
+        }
+    }
+
+    fn load_sheet(&self, core: &mut Core, sheet: &[u32], memory: &mut [u16]) -> Result<(), Refusal> {
+        match self.mistake {
+            Mistake::LoadSheet(load) => load(core, sheet, memory),
+            _ => model::load_sheet(core, sheet, memory),
+        }
+    }
+
+    fn write_sheet(&self, core: &Core, memory: &[u16], sheet: &mut [u32]) -> Result<usize, Refusal> {
+        match self.mistake {
+            Mistake::WriteSheet(write) => write(core, memory, sheet),
+            _ => model::write_sheet(core, memory, sheet),
+        }
+    }
+}
+
+const fn step(name: &'static str, step: fn(&mut Stepped)) -> WrongMachine {
+    WrongMachine { name, mistake: Mistake::Step(step) }
+}
+
+const fn other(name: &'static str, mistake: Mistake) -> WrongMachine {
+    WrongMachine { name, mistake }
+}
+
+pub const WRONG_MACHINES: [WrongMachine; 40] = [
+    step("ip is not advanced on an undecodable word", |s| {
+        if s.fault(10) {
+            s.core.ip = s.before.ip;
+        }
+    }),
+    step("sp is restored when a push faults", |s| {
+        if s.kind == Some(PUSH) && s.fault(11) {
+            s.core.sp = s.before.sp;
+        }
+    }),
+    step("movso of ip gives the old ip", |s| {
+        if s.is(MOVSO) && s.second == 0 {
+            s.core.r[s.first] = s.before.ip;
+        }
+    }),
+    step("a word written first is marked as read later", |s| {
+        if s.reads() {
+            s.marks[s.address] |= 1;
+        }
+    }),
+    other(
+        "limit is reported for a core that just halted",
+        Mistake::Run(|core, memory, marks, limit| {
+            let run = model::run(core, memory, marks, limit);
+            if run.end == End::Halted && run.steps == limit {
+                Run { end: End::Limit, ..run }
+            } else {
+                run
+            }
+        }),
+    ),
+    step("a word written first is marked as read when it is fetched", |s| {
+        if s.fetched() {
+            s.marks[s.before.ip as usize] |= 1;
+        }
+    }),
+    step("a fetch out of range advances ip", |s| {
+        if s.fault(11) && s.core.ip == s.before.ip {
+            s.core.ip = s.core.ip.wrapping_add(1);
+        }
+    }),
+    step("a halted core still fetches", |s| {
+        if s.answer == Step::Halted {
+            if let Some(mark) = s.marks.get_mut(s.before.ip as usize) {
+                *mark |= 1;
+            }
+        }
+    }),
+    step("hlt answers halted", |s| {
+        if s.is(HLT) {
+            s.answer = Step::Halted;
+        }
+    }),
+    step("a step clears the other bits of a mark", |s| {
+        if s.fetched() {
+            s.marks[s.before.ip as usize] &= 3;
+        }
+    }),
+    step("a read of data leaves no mark", |s| {
+        if let (true, Some(mark)) = (s.reads(), s.mark) {
+            s.marks[s.address] = mark;
+        }
+    }),
+    step("a write clears the mark of a read", |s| {
+        if s.is(WRITE) || s.is(PUSH) {
+            s.marks[s.address] &= 0xFE;
+        }
+    }),
+    step("a write past the length wraps around", |s| {
+        if s.kind == Some(WRITE) && s.fault(11) {
+            s.memory[s.address % s.memory.len()] = s.operands().1;
+            s.answer = Step::Stepped;
+        }
+    }),
+    step("an address out of range is told less one", |s| {
+        if let Step::Fault(Fault { number: 11, value }) = s.answer {
+            s.answer = Step::Fault(Fault { number: 11, value: value.wrapping_sub(1) });
+        }
+    }),
+    step("pop raises sp though its read faults", |s| {
+        if s.kind == Some(POP) && s.fault(11) {
+            s.core.sp = s.core.sp.wrapping_add(1);
+        }
+    }),
+    step("pop into a register loses the word where sp wraps", |s| {
+        if s.is(POP) && s.core.sp == 0 {
+            s.core.r[s.first] = s.before.r[s.first];
+        }
+    }),
+    step("sub is reversed", |s| {
+        if s.is(SUB) {
+            s.core.r[s.first] = s.operands().1.wrapping_sub(s.operands().0);
+        }
+    }),
+    step("gt holds for equal words", |s| {
+        if s.is(GT) && s.operands().0 == s.operands().1 {
+            s.core.ef |= 2;
+        }
+    }),
+    step("gteq is signed", |s| {
+        if s.is(GTEQ) {
+            let holds = s.operands().0 as i16 >= s.operands().1 as i16;
+            s.core.ef = s.core.ef & 0xFFFD | (holds as u16) << 1;
+        }
+    }),
+    step("a comparison clears the other bits of ef", |s| {
+        if s.is(EQZ) || s.is(EQ) || s.is(GT) || s.is(GTEQ) || s.is(INV) {
+            s.core.ef &= 3;
+        }
+    }),
+    step("booland is bitwise", |s| {
+        if s.is(BOOLAND) {
+            s.core.r[s.first] = (s.operands().0 & s.operands().1 > 0) as u16;
+        }
+    }),
+    step("a shift by 16 or more gives 0", |s| {
+        if s.fault(13) && s.kind != Some(BITSET) {
+            s.core.r[s.first] = 0;
+            s.answer = Step::Stepped;
+        }
+    }),
+    step("a bit's index goes by its low four bits", |s| {
+        if s.fault(13) && s.kind == Some(BITSET) && s.before.ef & 2 > 0 {
+            s.core.r[s.first] |= 1 << (s.operands().1 % 16);
+            s.answer = Step::Stepped;
+        }
+    }),
+    step("bitset ignores the condition", |s| {
+        if s.is(BITSET) {
+            s.core.r[s.first] |= 1 << s.operands().1;
+        }
+    }),
+    step("neg of 0x8000 is allowed", |s| {
+        if s.fault(14) {
+            s.answer = Step::Stepped;
+        }
+    }),
+    step("dmov, dread and dwrite do nothing", |s| {
+        if s.fault(12) {
+            s.answer = Step::Stepped;
+        }
+    }),
+    step("call saves where it goes", |s| {
+        if s.is(CALL) {
+            s.core.rp = s.core.ip;
+        }
+    }),
+    step("movsi keeps two bits of ef", |s| {
+        if s.is(MOVSI) && s.first == 3 {
+            s.core.ef &= 3;
+        }
+    }),
+    step("a jump by the byte 128 goes forward", |s| {
+        let taken = s.core.ip == s.before.ip.wrapping_sub(127);
+        if s.is(JMPOFF) && taken {
+            s.core.ip = s.core.ip.wrapping_add(256);
+        }
+    }),
+    other(
+        "a step that faults is counted",
+        Mistake::Run(|core, memory, marks, limit| {
+            let run = model::run(core, memory, marks, limit);
+            if matches!(run.end, End::Fault(_)) {
+                Run { steps: run.steps + 1, ..run }
+            } else {
+                run
+            }
+        }),
+    ),
+    other(
+        "a run keeps the marks that it finds",
+        Mistake::Run(|core, memory, marks, limit| {
+            let found = marks.to_vec();
+            let run = model::run(core, memory, marks, limit);
+            marks.iter_mut().zip(found).for_each(|(mark, found)| *mark |= found);
+            run
+        }),
+    ),
+    other(
+        "a run goes one step past its limit",
+        Mistake::Run(|core, memory, marks, limit| {
+            let run = model::run(core, memory, marks, limit);
+            if run.end == End::Limit {
+                model::step(core, memory, marks);
+            }
+            run
+        }),
+    ),
+    other(
+        "a refused run clears the marks",
+        Mistake::Run(|core, memory, marks, limit| {
+            marks.fill(0);
+            model::run(core, memory, marks, limit)
+        }),
+    ),
+    step("the lengths are tested in another order", |s| {
+        if s.answer == Step::Refused(Refusal(1)) && s.marks.len() != s.memory.len() {
+            s.answer = Step::Refused(Refusal(2));
+        }
+    }),
+    other(
+        "0x2158 decodes as dmov",
+        Mistake::Decode(|word| if word == 0x2158 { model::decode(0x2118) } else { model::decode(word) }),
+    ),
+    other(
+        "spread refuses an offset above 15",
+        Mistake::Encode(|instruction| {
+            let refused = instruction.kind == SPREAD && instruction.second > 15;
+            if refused {
+                None
+            } else {
+                model::encode(instruction)
+            }
+        }),
+    ),
+    other(
+        "a word list leaves the words behind it",
+        Mistake::LoadWords(|core, words, memory| {
+            let found = memory.to_vec();
+            model::load_words(core, words, memory)?;
+            memory[words.len()..].copy_from_slice(&found[words.len()..]);
+            Ok(())
+        }),
+    ),
+    other(
+        "records after the end are tested before its count",
+        Mistake::LoadSheet(|core, sheet, memory| {
+            let refusal = model::load_sheet(core, sheet, memory);
+            let end = sheet.iter().position(|record| record >> 28 == 15);
+            match (refusal, end) {
+                (Err(Refusal(26)), Some(end)) if end + 1 < sheet.len() => Err(Refusal(25)),
+                _ => refusal,
+            }
+        }),
+    ),
+    other(
+        "the load address wraps",
+        Mistake::LoadSheet(|core, sheet, memory| {
+            let refusal = model::load_sheet(core, sheet, memory);
+            if refusal == Err(Refusal(23)) && memory.len() == 65536 {
+                Ok(())
+            } else {
+                refusal
+            }
+        }),
+    ),
+    other(
+        "a buffer too short is written in part",
+        Mistake::WriteSheet(|core, memory, sheet| {
+            let refusal = model::write_sheet(core, memory, sheet);
+            if let (Err(Refusal(4)), Some(first)) = (refusal, sheet.first_mut()) {
+                *first = 0x3000_0000 | core.r[0] as u32;
+            }
+            refusal
+        }),
+    ),
+];

@@ -1,0 +1,99 @@
+//! Nilguseg, the proved Delta Null interpreter, for Rust hosts: safe functions over the static library.
+//!
+//! Nothing is tested here that the library tests itself: lengths that do not fit are refused by it, with the
+//! numbers of document 01, and a refused call leaves what was lent unchanged.
+//!
+//! ```
+//! use nilguseg::{Core, End};
+//! let mut memory = [0x1003, 0xFFFF]; // putl r0 3, hlt
+//! let mut marks = [0; 2];
+//! let mut core = Core::new();
+//! let run = core.run(&mut memory, &mut marks, 2);
+//! assert_eq!((run.end, run.steps, core.r[0]), (End::Halted, 2, 3));
+//! ```
+
+mod ffi;
+mod types;
+
+pub use types::*;
+
+/// The instruction that a word stands for, or stop 10 with the word.
+pub fn decode(word: u16) -> Result<Instruction, Fault> {
+    match ffi::nilguseg_decode(word).to_be_bytes() {
+        [0, kind, first, second] => Ok(Instruction { kind, first, second }),
+        [number, 0, high, low] => Err(Fault { number, value: u16::from_be_bytes([high, low]) }),
+        other => panic!("decoding never answers {other:02x?}"),
+    }
+}
+
+/// The word of an instruction; none for a kind above 42 or a register operand that does not exist.
+pub fn encode(instruction: Instruction) -> Option<u16> {
+    let Instruction { kind, first, second } = instruction;
+    ffi::nilguseg_encode(kind, first, second).try_into().ok()
+}
+
+impl Core {
+    /// One step. Adds to the marks and clears none.
+    pub fn step(&mut self, memory: &mut [u16], marks: &mut [u8]) -> Step {
+        // SAFETY: pointers and lengths are those of slices, and Core has the layout of twelve words.
+        let answer =
+            unsafe { ffi::nilguseg_step(self, memory.as_mut_ptr(), memory.len(), marks.as_mut_ptr(), marks.len()) };
+        let [class, number, high, low] = answer.to_be_bytes();
+        match (class, number, u16::from_be_bytes([high, low])) {
+            (0, 0, 0) => Step::Stepped,
+            (1, 0, 0) => Step::Halted,
+            (2, number, value) => Step::Fault(Fault { number, value }),
+            (3, number, 0) => Step::Refused(Refusal(number)),
+            other => panic!("a step never answers {other:?}"),
+        }
+    }
+
+    /// Steps until halt, the limit or a fault. First sets all marks to 0; then 1 is read before written, 2 written.
+    pub fn run(&mut self, memory: &mut [u16], marks: &mut [u8], limit: u32) -> Run {
+        // SAFETY: as in `step`.
+        let answer = unsafe {
+            ffi::nilguseg_run(self, memory.as_mut_ptr(), memory.len(), marks.as_mut_ptr(), marks.len(), limit)
+        };
+        let [class, number, high, low, ..] = answer.to_be_bytes();
+        let end = match (class, number, u16::from_be_bytes([high, low])) {
+            (0, 0, 0) => End::Halted,
+            (1, 0, 0) => End::Limit,
+            (2, number, value) => End::Fault(Fault { number, value }),
+            (3, number, 0) => End::Refused(Refusal(number)),
+            other => panic!("a run never ends with {other:?}"),
+        };
+        Run { end, steps: answer as u32 }
+    }
+
+    /// Zeroes memory and copies the words to its beginning. The core becomes a fresh one, also where it refuses.
+    pub fn load_words(&mut self, words: &[u16], memory: &mut [u16]) -> Result<(), Refusal> {
+        // SAFETY: as in `step`.
+        refusal(unsafe {
+            ffi::nilguseg_load_words(self, words.as_ptr(), words.len(), memory.as_mut_ptr(), memory.len())
+        })
+    }
+
+    /// Sets memory and core as the sheet says. The core becomes a fresh one where it refuses.
+    pub fn load_sheet(&mut self, sheet: &[u32], memory: &mut [u16]) -> Result<(), Refusal> {
+        // SAFETY: as in `step`.
+        refusal(unsafe {
+            ffi::nilguseg_load_sheet(self, sheet.as_ptr(), sheet.len(), memory.as_mut_ptr(), memory.len())
+        })
+    }
+
+    /// Writes the sheet that restores this core and memory, and answers how many records it has.
+    pub fn write_sheet(&self, memory: &[u16], sheet: &mut [u32]) -> Result<usize, Refusal> {
+        // SAFETY: as in `step`.
+        let answer =
+            unsafe { ffi::nilguseg_write_sheet(self, memory.as_ptr(), memory.len(), sheet.as_mut_ptr(), sheet.len()) };
+        refusal((answer >> 32) as u32)?;
+        Ok(answer as u32 as usize)
+    }
+}
+
+fn refusal(number: u32) -> Result<(), Refusal> {
+    match number {
+        0 => Ok(()),
+        number => Err(Refusal(number.try_into().expect("a refusal's number is below 256"))),
+    }
+}

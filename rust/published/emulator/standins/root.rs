@@ -1,0 +1,2 @@
+pub mod core;
+pub mod memory;
