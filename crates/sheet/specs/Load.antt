@@ -64,7 +64,7 @@ readFrom (w ∷ ws) a n c mem = recordReads (recordOf w) ws (readFrom ws) a n c 
 abbrev pub sheetReads : List ℕ → ℕ → Reading
 sheetReads sheet size = readFrom sheet 0 0 newCore (replicate size 0)
 
--- whether the sheet passes
+-- whether the sheet passes, and what is left then
 abbrev pub testedOf : Reading → Loaded
 testedOf (Reading.gives c mem) = Loaded.Done
 testedOf (Reading.fails k) = Loaded.Refused k

@@ -36,7 +36,7 @@ presetRecord r v = 3 * 2 ^ 28 + r * 2 ^ 16 + v
 abbrev pub endRecord : ℕ → ℕ
 endRecord n = 15 * 2 ^ 28 + n
 
--- presets of k registers from r on
+-- the presets of k registers from r on
 unfoldable pub presetsFrom : Core → ℕ → ℕ → List ℕ
 presetsFrom c zero r = []
 presetsFrom c (suc k) r = presetRecord r (registerOf c r) ∷ presetsFrom c k (r + 1)

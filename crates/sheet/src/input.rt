@@ -15,6 +15,7 @@ fn low_first(a: u8, b: u8, c: u8, d: u8) -> u32
     a as u32 + b as u32 * 0x100 + c as u32 * 0x10000 + d as u32 * 0x1000000
 }
 
+// The records of `bytes`, put into `out` from the front.
 fn put_records(bytes: &[u8], out: &mut [u32])
     requires { ⌜ (length (now bytes) % 4 ≡ 0) × (length (now bytes) ≤ length (now out) * 4) ⌝ }
     ensures { λ r. ⌜ now (out .exit) ≡ sets (now (out .entry)) 0 (recordsOf (now (bytes .entry))) ⌝ }
@@ -28,7 +29,7 @@ fn put_records(bytes: &[u8], out: &mut [u32])
     }
 }
 
-// The records that `bytes` hold, put into `out`, and how many they are. A program whose `out` has room for 8,192 is refused only with 27.
+// The records of a program's input, put into `out`, and how many they are. Room for 8,192 is always enough.
 pub fn records(bytes: &[u8], out: &mut [u32]) -> Written
     ensures { λ r. ⌜ wrote (writtenOf r) (now (out .exit)) ≡ inputOf (now (bytes .entry)) (now (out .entry)) ⌝ }
 {

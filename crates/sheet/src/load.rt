@@ -86,7 +86,7 @@ fn test_sheet(sheet: &[u32], size: usize) -> Loaded
     Loaded::Refused(24)
 }
 
-// What a sheet that passed its tests does: it cannot fail any more.
+// What a sheet that passed its tests does. It cannot fail any more: its end record is the last, and every word has its place.
 fn apply_sheet(sheet: &[u32], memory: &mut [u16]) -> Core
     requires { ⌜ Loaded.Done ≡ testedOf (sheetReads (now sheet) (length (now memory))) ⌝ }
     ensures { λ r. ⌜ Reading.gives r (now (memory .exit)) ≡ sheetReads (now (sheet .entry)) (length (now (memory .entry))) ⌝ }

@@ -61,6 +61,13 @@ fn count_words(memory: &[u16]) -> u32
     count
 }
 
+fn preset_record(register: usize, value: u16) -> u32
+    requires { ⌜ register < 12 ⌝ }
+    ensures { λ r. ⌜ r ≡ presetRecord register value ⌝ }
+{
+    0x30000000 + register as u32 * 0x10000 + value as u32
+}
+
 // The presets of the twelve registers.
 fn put_presets(core: Core, sheet: &mut [u32])
     requires { ⌜ 12 ≤ length (now sheet) ⌝ }
@@ -71,13 +78,6 @@ fn put_presets(core: Core, sheet: &mut [u32])
         sheet[r] = preset_record(r, register(core, r));
         r += 1;
     }
-}
-
-fn preset_record(register: usize, value: u16) -> u32
-    requires { ⌜ register < 12 ⌝ }
-    ensures { λ r. ⌜ r ≡ presetRecord register value ⌝ }
-{
-    0x30000000 + register as u32 * 0x10000 + value as u32
 }
 
 // The records of a word at an address after the word before it, put at `at`; answers the place past them.

@@ -55,11 +55,25 @@ fn at_length(n: usize) {
     show::line();
 }
 
-// A sheet for the last address, a sheet with no end, and a word list.
 fn load_each(memory: &mut [u16]) {
+    load_last(memory);
+    load_none(memory);
+    load_two(memory);
+}
+
+// A sheet for the last address.
+fn load_last(memory: &mut [u16]) {
     show_load(sheet::load_sheet(&[0x1000FFFF, 0x20000005, 0xF0000001], memory));
     show::sum(memory);
+}
+
+// A sheet with no end.
+fn load_none(memory: &mut [u16]) {
     show_load(sheet::load_sheet(&[], memory));
+}
+
+// A word list.
+fn load_two(memory: &mut [u16]) {
     show_load(sheet::load_words(&[5, 6], memory));
     show::sum(memory);
 }

@@ -57,17 +57,24 @@ fn write_small(memory: &[u16]) {
     show::line();
 }
 
-// Buffers just long enough, and one too short.
+// Buffers just long enough, and one too short, for a memory of one word or of none.
 pub fn room() {
-    at_room(&[0], 13);
-    at_room(&[0], 12);
-    at_room(&[3], 15);
-    at_room(&[3], 14);
-    at_room(&[], 16);
-    at_room(&[], 0);
+    at_room(0, 1, 13);
+    at_room(0, 1, 12);
+    at_room(3, 1, 15);
+    at_room(3, 1, 14);
+    at_room(3, 0, 16);
+    at_room(3, 0, 0);
 }
 
-fn at_room(memory: &[u16], n: usize) {
+fn at_room(word: u16, words: usize, n: usize) {
+    let memory = [word; 1];
+    if words <= 1 {
+        write_room(&memory[0..words], n);
+    }
+}
+
+fn write_room(memory: &[u16], n: usize) {
     let mut buffer = [0xFFFFFFFFu32; 16];
     let mut other = [7u16; 1];
     show::words(memory);
@@ -86,12 +93,17 @@ fn show_buffer(buffer: &[u32; 16], other: &[u16; 1]) {
 
 // Memories of 65,536 words, all zero and without a zero, and one of a word more.
 pub fn large() {
-    let zeros = [0u16; 65536];
-    write_large(&zeros, 65550);
-    let ones = [1u16; 65537];
-    write_large(&ones[..65536], 65550);
-    write_large(&ones[..65536], 65549);
-    write_large(&ones, 65550);
+    at_size(0, 65536, 65550);
+    at_size(1, 65536, 65550);
+    at_size(1, 65536, 65549);
+    at_size(1, 65537, 65550);
+}
+
+fn at_size(word: u16, words: usize, n: usize) {
+    let memory = [word; 65537];
+    if words <= 65537 {
+        write_large(&memory[0..words], n);
+    }
 }
 
 fn write_large(memory: &[u16], n: usize) {
