@@ -66,8 +66,9 @@ pub enum InstructionOpcode {
     Ret,
 }
 
-// The opcode, by ranges of the upper byte and then of the lower byte. The upper bytes that stand alone become one jump table.
-pub fn opcode(hi: u16, lo: u16) -> InstructionOpcode
+// The opcode, by ranges of the upper byte and then of the lower byte. The upper bytes that stand alone become one jump table; that the
+// upper byte is a u8 spares the test of its bounds.
+pub fn opcode(hi: u8, lo: u16) -> InstructionOpcode
     ensures { λ r. ⌜ r ≡ opcodeOf hi lo ⌝ }
 {
     match hi {

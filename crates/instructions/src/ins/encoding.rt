@@ -84,7 +84,7 @@ impl Instruction {
     pub fn decode(bits: u16) -> Decoded
         ensures { λ r. ⌜ answerOf r ≡ decodeOf bits ⌝ }
     {
-        with_operands(opcode::opcode(bits / 256, bits % 256), bits)
+        with_operands(opcode::opcode((bits / 256) as u8, bits % 256), bits)
     }
 }
 
