@@ -1,6 +1,5 @@
 -- The definitions at small values (document 01, the program), computed. None of them decodes a word.
-use Prim.Native.Nat.{ℕ}
-use mathlib.Core.List.{List, [], _∷_, _++_, map}
+use mathlib.Core.List.{[], _∷_, _++_, map}
 use mathlib.Core.Path.{_≡_, refl}
 use Rattle.emulator.specs.Core.{coreOf}
 use Rattle.emulator.specs.Outcome.{halted, limit, fault, refused}

@@ -2,7 +2,7 @@
 use Prim.Native.Nat.{ℕ, _%_, _≤_}
 use mathlib.Core.Bool.{Bool, true, false}
 use mathlib.Core.List.{List, [], _∷_, _++_, append-nil, append-assoc}
-use mathlib.Core.Path.{_≡_, refl, sym, ap, _∙_}
+use mathlib.Core.Path.{_≡_, refl, sym, ap}
 use native.Mathlib.Omega.{arith}
 use lib.ListN.{length, take, drop, replicate, length-replicate}
 use lib.Dec.{ltb, eqb}
@@ -13,25 +13,25 @@ use Rattle.emulator.specs.declared.core.Core.{Core}
 use Rattle.emulator.specs.declared.cycle.Stop.{Stop}
 use Rattle.emulator.specs.declared.cycle.End.{End}
 use Rattle.emulator.specs.Outcome as emulator
-use Rattle.emulator.specs.Machine.{Ran, ran, runOf}
+use Rattle.emulator.specs.Machine.{ran, runOf}
 use Rattle.sheet.specs.declared.load.Loaded.{Loaded}
 use Rattle.sheet.specs.declared.write.Written.{Written}
 use Rattle.sheet.specs.Outcome as sheet
-use Rattle.sheet.specs.Load.{Left, left, loadSheetOf}
+use Rattle.sheet.specs.Load.{left, loadSheetOf}
 use Rattle.sheet.specs.Write.{Wrote, wrote}
 use Rattle.sheet.specs.Input.{recordsOf, inputOf}
 use Rattle.sheet.proofs.InputLaws.{length-records}
 use Rattle.emulator.proofs.Cases.{by-test}
-use Rattle.line.specs.Line.{haltedWord, limitWord, faultWord, refusedWord, field, fields, row, counts, refusedLine, endLine, ranLine, loadedLine, leftLine, sheetLine, recordsLine, wroteLine, lineOf}
+use Rattle.line.specs.Line.{haltedWord, limitWord, faultWord, refusedWord, field, fields, row, stateOf, refusedLine, endLine, loadedLine, sheetLine, recordsLine, lineOf}
 use Rattle.line.specs.Put.{Put, AtFront}
 use Rattle.line.proofs.PutLaws.{put-then, put-as, fields-append}
 
 -- steps, ip, rp, sp, ef, r0 to r7, and the line feed
-pub put-counts : (steps : ℕ) (c : Core) {b₀ b₁ b₂ b₃ b₄ : List ℕ} {a₀ a₁ a₂ a₃ a₄ : ℕ}
+pub put-state : (steps : ℕ) (c : Core) {b₀ b₁ b₂ b₃ b₄ : List ℕ} {a₀ a₁ a₂ a₃ a₄ : ℕ}
     → Put b₀ b₁ a₀ a₁ (field steps) → Put b₁ b₂ a₁ a₂ (fields (c .ip ∷ c .rp ∷ c .sp ∷ c .ef ∷ [])) → Put b₂ b₃ a₂ a₃ (fields (c .gprs)) → Put b₃ b₄ a₃ a₄ (10 ∷ [])
-    → Put b₀ b₄ a₀ a₄ (fields (counts steps c) ++ 10 ∷ [])
+    → Put b₀ b₄ a₀ a₄ (fields (stateOf steps c) ++ 10 ∷ [])
 unfolding fields
-put-counts steps c p q s t =
+put-state steps c p q s t =
     put-then (put-then p (put-as (sym (fields-append (c .ip ∷ c .rp ∷ c .sp ∷ c .ef ∷ []) (c .gprs))) (put-then q s))) t
 
 -- a word, and its numbers with the line feed
@@ -47,25 +47,25 @@ put-refused n p q t = put-row refusedWord (n ∷ []) p (put-then (put-as (sym (a
 
 -- the line of a run, by its end
 module _ (x : End) (steps : ℕ) (c : Core) {b₀ b₁ b₂ : List ℕ} {a₁ a₂ : ℕ} where
-  pub put-halted : x ≡ End.Halted → Put b₀ b₁ 0 a₁ haltedWord → Put b₁ b₂ a₁ a₂ (fields (counts steps c) ++ 10 ∷ [])
+  pub put-halted : x ≡ End.Halted → Put b₀ b₁ 0 a₁ haltedWord → Put b₁ b₂ a₁ a₂ (fields (stateOf steps c) ++ 10 ∷ [])
       → Put b₀ b₂ 0 a₂ (endLine (emulator.endOf x) steps c)
   unfolding endLine
-  put-halted e p q = rw e (put-row haltedWord (counts steps c) p q)
+  put-halted e p q = rw e (put-row haltedWord (stateOf steps c) p q)
 
-  pub put-limit : x ≡ End.Limit → Put b₀ b₁ 0 a₁ limitWord → Put b₁ b₂ a₁ a₂ (fields (counts steps c) ++ 10 ∷ [])
+  pub put-limit : x ≡ End.Limit → Put b₀ b₁ 0 a₁ limitWord → Put b₁ b₂ a₁ a₂ (fields (stateOf steps c) ++ 10 ∷ [])
       → Put b₀ b₂ 0 a₂ (endLine (emulator.endOf x) steps c)
   unfolding endLine
-  put-limit e p q = rw e (put-row limitWord (counts steps c) p q)
+  put-limit e p q = rw e (put-row limitWord (stateOf steps c) p q)
 
   pub put-fault : {s : Stop} {n v : ℕ} {b₃ : List ℕ} {a₃ : ℕ} → x ≡ End.Fault s → emulator.stopOf s ≡ emulator.fault n v
-      → Put b₀ b₁ 0 a₁ faultWord → Put b₁ b₂ a₁ a₂ (fields (n ∷ v ∷ [])) → Put b₂ b₃ a₂ a₃ (fields (counts steps c) ++ 10 ∷ [])
+      → Put b₀ b₁ 0 a₁ faultWord → Put b₁ b₂ a₁ a₂ (fields (n ∷ v ∷ [])) → Put b₂ b₃ a₂ a₃ (fields (stateOf steps c) ++ 10 ∷ [])
       → Put b₀ b₃ 0 a₃ (endLine (emulator.endOf x) steps c)
   unfolding endLine
   put-fault {n = n} {v = v} e f p q t =
-      rw (e, f) (put-row faultWord (n ∷ v ∷ counts steps c) p (put-as both (put-then q t)))
+      rw (e, f) (put-row faultWord (n ∷ v ∷ stateOf steps c) p (put-as both (put-then q t)))
     where
-      both : fields (n ∷ v ∷ []) ++ (fields (counts steps c) ++ 10 ∷ []) ≡ fields (n ∷ v ∷ counts steps c) ++ 10 ∷ []
-      both = rw (fields-append (n ∷ v ∷ []) (counts steps c)) (sym (append-assoc (fields (n ∷ v ∷ [])) (fields (counts steps c)) (10 ∷ [])))
+      both : fields (n ∷ v ∷ []) ++ (fields (stateOf steps c) ++ 10 ∷ []) ≡ fields (n ∷ v ∷ stateOf steps c) ++ 10 ∷ []
+      both = rw (fields-append (n ∷ v ∷ []) (stateOf steps c)) (sym (append-assoc (fields (n ∷ v ∷ [])) (fields (stateOf steps c)) (10 ∷ [])))
 
 pub put-host : (x : End) (steps : ℕ) (c : Core) {before after : List ℕ} {n past : ℕ} → x ≡ End.Refused n → AtFront before after past (refusedLine n)
     → AtFront before after past (endLine (emulator.endOf x) steps c)

@@ -1,13 +1,13 @@
 -- Laws of text put into a buffer: one byte, and one text after another.
-use Prim.Native.Nat.{ℕ, suc, _+_, _*_, _/_, _%_, _<_, _≤_}
+use Prim.Native.Nat.{ℕ, _+_, _/_, _%_, _<_, _≤_}
 use mathlib.Core.List.{List, [], _∷_, _++_, append-nil, append-assoc}
 use mathlib.Core.Path.{_≡_, refl, sym, ap, _∙_}
 use native.Mathlib.Numerals.{add-one}
-use native.Mathlib.Nat.{add-assoc, zero-add}
+use native.Mathlib.Nat.{add-assoc}
 use native.Mathlib.Omega.{arith}
-use lib.ListN.{length, getD, set, take, drop, length-append}
+use lib.ListN.{length, getD, take, drop, length-append}
 use lib.Seq.{sets, take-suc, take-all, length-take-le}
-use Rattle.sheet.proofs.Stores.{sets-append, sets-front, sets-next, sets-done}
+use Rattle.sheet.proofs.Stores.{sets-append, sets-front, sets-done}
 use Rattle.line.specs.Decimal.{digit, decimalOf}
 use Rattle.line.specs.Line.{field, fields}
 use Rattle.line.specs.Put.{Put, AtFront}

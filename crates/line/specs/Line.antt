@@ -36,9 +36,9 @@ fields (n ∷ ns) = field n ++ fields ns
 unfoldable pub row : List ℕ → List ℕ → List ℕ
 row word ns = word ++ (fields ns ++ 10 ∷ [])
 
--- steps, ip, rp, sp, ef, r0 to r7
-abbrev pub counts : ℕ → Core → List ℕ
-counts steps c = steps ∷ c .ip ∷ c .rp ∷ c .sp ∷ c .ef ∷ c .gprs
+-- what a run leaves: steps, ip, rp, sp, ef, r0 to r7
+abbrev pub stateOf : ℕ → Core → List ℕ
+stateOf steps c = steps ∷ c .ip ∷ c .rp ∷ c .sp ∷ c .ef ∷ c .gprs
 
 -- `refused` and the number
 abbrev pub refusedLine : ℕ → List ℕ
@@ -47,9 +47,9 @@ refusedLine n = row refusedWord (n ∷ [])
 -- the line of a run by its end, a fault with number and value; no run ends as stepped
 unfoldable pub endLine : emulator.Outcome → ℕ → Core → List ℕ
 endLine emulator.stepped steps c = []
-endLine emulator.halted steps c = row haltedWord (counts steps c)
-endLine emulator.limit steps c = row limitWord (counts steps c)
-endLine (emulator.fault n v) steps c = row faultWord (n ∷ v ∷ counts steps c)
+endLine emulator.halted steps c = row haltedWord (stateOf steps c)
+endLine emulator.limit steps c = row limitWord (stateOf steps c)
+endLine (emulator.fault n v) steps c = row faultWord (n ∷ v ∷ stateOf steps c)
 endLine (emulator.refused n) steps c = refusedLine n
 
 abbrev pub ranLine : Ran → List ℕ

@@ -14,9 +14,8 @@ use sheet::records;
 ghost use mathlib.Core.Path.{_≡_};
 ghost use mathlib.Core.List.{[], _∷_, _++_};
 ghost use Prim.Native.Nat.{_≤_};
-ghost use lib.ListN.{length, drop};
 ghost use Rattle.emulator.specs.Outcome.{endOf, stopOf, fault};
-ghost use Rattle.line.specs.Line.{fields, counts, refusedLine, endLine, sheetLine, lineOf};
+ghost use Rattle.line.specs.Line.{fields, stateOf, refusedLine, endLine, sheetLine, lineOf};
 ghost use Rattle.line.specs.Put.{Put, AtFront};
 
 // A stop's number, and the value that is returned too.
@@ -37,10 +36,10 @@ fn fault_of(stop: Stop) -> Fault
     }
 }
 
-// Puts what follows a run's end: the steps, the registers, and the line feed.
-fn put_counts(out: &mut [u8; 128], at: usize, steps: u32, core: Core) -> usize
+// Puts what a run leaves, and the line feed: at most 84 bytes.
+fn put_state(out: &mut [u8; 128], at: usize, steps: u32, core: Core) -> usize
     requires { ⌜ at ≤ 44 ⌝ }
-    ensures { λ r. ⌜ Put (now (out .entry)) (now (out .exit)) at r (fields (counts steps core) ++ 10 ∷ []) ⌝ }
+    ensures { λ r. ⌜ Put (now (out .entry)) (now (out .exit)) at r (fields (stateOf steps core) ++ 10 ∷ []) ⌝ }
     ensures { λ r. ⌜ r ≤ 128 ⌝ }
 {
     let special = [core.ip, core.rp, core.sp, core.ef];
@@ -69,18 +68,18 @@ fn put_run(out: &mut [u8; 128], run: Run) -> usize
     match end {
         End::Halted => {
             let at = put_word(out, b"halted");
-            put_counts(out, at, run.steps, core)
+            put_state(out, at, run.steps, core)
         }
         End::Limit => {
             let at = put_word(out, b"limit");
-            put_counts(out, at, run.steps, core)
+            put_state(out, at, run.steps, core)
         }
         End::Fault(stop) => {
             let fault = fault_of(stop);
             let stopped = [fault.number, fault.value];
             let word = put_word(out, b"fault");
             let at = put_fields(out, word, &stopped);
-            put_counts(out, at, run.steps, core)
+            put_state(out, at, run.steps, core)
         }
         End::Refused(number) => put_refused(out, number),
     }
