@@ -1,13 +1,13 @@
 -- What the parts of a call come to together: the core of the words, the call of the machine, the words of its core, and the answer's
 -- number.
 -- Assumes nothing.
-use mathlib.Core.Path.{_≡_, refl, ap, _∙_}
+use mathlib.Core.Path.{_≡_, refl}
 use mathlib.Core.List.{List, [], _∷_}
 use Prim.Native.Nat.{ℕ, _+_, _*_, _^_}
 use Rattle.emulator.specs.declared.core.Core.{Core}
 use Rattle.emulator.specs.declared.cycle.Stop.{Stop}
 use Rattle.emulator.specs.declared.cycle.Stop.the-variants as stops
-use Rattle.emulator.specs.Machine.{Turn, turn, stepOf, Ran, ran, runOf}
+use Rattle.emulator.specs.Machine.{turn, stepOf, ran, runOf}
 use Rattle.emulator.specs.Outcome as machine
 use Rattle.sheet.specs.Load.{Left, left}
 use Rattle.sheet.specs.Outcome as sheet

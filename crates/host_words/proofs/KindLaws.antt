@@ -1,13 +1,12 @@
 -- Laws of the list of kinds, and of what decoding and encoding come to, that the functions' proofs cite.
 -- Assumes nothing.
 use mathlib.Core.Path.{_≡_, refl, sym, ap, subst, _∙_}
-use mathlib.Core.List.{List, [], _∷_, map}
+use mathlib.Core.List.{map}
 use Prim.Native.Nat.{ℕ, zero, suc, _+_, _*_, _-_, _^_, _≤_, _<_}
 use native.Mathlib.Omega.{arith}
 use lib.ListN.{getD, drop, List·getD-map, List·getD-eq-default}
 use lib.Seq.{getD-drop}
 use borrow.Author.Tests.{lt-ltb, le-ltb}
-use Rattle.instructions.specs.Answer.{Answer, gives, stops}
 use Rattle.instructions.specs.Decoding.{answerOf, decodeOf}
 use Rattle.instructions.specs.Encoding.{encodeOf}
 use Rattle.instructions.specs.declared.ins.Instruction.{Instruction}

@@ -2,7 +2,7 @@
 -- value of the code, is what its own numbers make, and encoding accepts those.
 -- Assumes nothing.
 use mathlib.Core.Path.{_≡_, refl}
-use Prim.Native.Nat.{ℕ, _<_}
+use Prim.Native.Nat.{_<_}
 use native.Mathlib.Omega.{arith}
 use Rattle.instructions.specs.Encoding.{encodeOf}
 use Rattle.instructions.specs.Reg.{gprNumber, gprAt, sprNumber, sprAt, drNumber, drAt}

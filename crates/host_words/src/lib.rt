@@ -1,5 +1,5 @@
 // What C and Rust hosts call to decode and encode. A static library of its own: in one with the run, a second call of
-// `Instruction::decode` keeps the compiler from inlining it there, and a step takes two to three times as long.
+// `Instruction::decode` keeps the compiler from inlining it there, and a step takes about twice as long.
 use crate::instruction::first_values;
 use crate::instruction::pack;
 use crate::instruction::second_values;

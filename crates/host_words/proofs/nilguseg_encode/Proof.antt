@@ -1,6 +1,6 @@
 -- `nilguseg_encode` meets its contract: the two tests of the operands, then the word.
 -- Assumes nothing.
-use mathlib.Core.Path.{_≡_, sym, _∙_}
+use mathlib.Core.Path.{sym, _∙_}
 use borrow.Author.Needs.{needs}
 use Rattle.host_words.proofs.KindLaws.{first-refused, second-refused, encoded}
 use Rattle.host_words.proofs.nilguseg_encode.Statement.{statement}
