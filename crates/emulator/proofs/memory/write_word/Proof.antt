@@ -1,5 +1,6 @@
 -- `emulator::memory::write_word` meets its contract, by the range of the address.
-use Rattle.emulator.proofs.Laws.{write-in, write-past, set-to, set-past, set-past-marks}
+-- Assumes nothing.
+use Rattle.emulator.proofs.Laws.{write-in, write-past, set-past, set-past-marks}
 use borrow.Author.Needs.{needs}
 use Rattle.emulator.proofs.memory.write_word.Statement.{statement}
 use Rattle.emulator.proofs.memory.write_word.Tie as tie
@@ -9,11 +10,9 @@ write-word-spec =
     tie.close
     (tie.spec
     (λ c. search (write-past, set-past, set-past-marks))
-    (λ c. search needs)
     (λ c κs. search needs)
     (λ c. search needs)
     (λ c. search needs)
     (λ c. search needs)
     (λ c. search needs)
-    (λ c. search needs)
-    (λ c. search (write-in, set-to)))
+    (λ c. search write-in))
