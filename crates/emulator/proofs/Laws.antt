@@ -52,6 +52,9 @@ module _ (mem : List ℕ) (a : ℕ) where
   unfolding writtenOf
   write-past l = rw (le-ltb a (length mem) l)
 
+  pub set-to : {m n : ℕ} → m ≡ n → set mem a m ≡ set mem a n
+  set-to e = rw e
+
   pub set-past : (v : ℕ) → length mem ≤ a → mem ≡ set mem a v
   set-past v l = sym (set-out mem a v l)
 

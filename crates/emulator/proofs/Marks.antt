@@ -1,11 +1,11 @@
 -- What a read and a write do to marks.
 use Prim.Native.Nat.{ℕ, _+_, _/_, _%_}
 use mathlib.Core.List.{List}
-use mathlib.Core.Path.{_≡_, refl, sym, ap, _∙_}
+use mathlib.Core.Path.{_≡_, refl, ap, _∙_}
 use mathlib.Core.Logic.{_≢_, ⊎-elim, _⊎_, inl, inr}
 use native.Mathlib.Omega.{arith}
 use lib.ListN.{length, getD, set}
-use lib.Seq.{getD-set-same, getD-set-other, set-getD, set-out}
+use lib.Seq.{getD-set-same, getD-set-other, set-out}
 use lib.Dec.{ltb, eqb}
 use borrow.Author.Tests.{eq-eqb, ne-eqb, eqb-true, eqb-false, ltb-true, ltb-false}
 use Rattle.emulator.specs.Memory.{bit0, bit1, readMark, writeMark, markRead, markWrite}
@@ -32,26 +32,6 @@ module _ (m : ℕ) where
   pub write-first : (bit1 m ≡ 1 → ⊥) → m + 2 ≡ writeMark m
   unfolding writeMark
   write-first n = rw (ne-eqb (bit1 m) 1 n)
-
--- the same of a list of marks, where one that stays as it is isn't stored
-module _ (ms : List ℕ) (a : ℕ) where
-  abbrev m : ℕ
-  m = getD ms a 0
-
-  pub reads-first : m % 4 ≡ 0 → set ms a (m + 1) ≡ markRead ms a
-  reads-first z = ap (set ms a) (read-first m (λ e. omega arith) (λ e. omega arith))
-
-  pub reads-again : (m % 4 ≡ 0 → ⊥) → ms ≡ markRead ms a
-  reads-again n = sym (set-getD ms a 0) ∙ ap (set ms a) (by-test (eqb (bit1 m) 1) (λ e. read-written m (eqb-true _ _ e)) (λ e. read-again m (eqb-false _ _ e) (odd (eqb-false _ _ e))))
-    where
-      odd : (bit1 m ≡ 1 → ⊥) → bit0 m ≡ 1
-      odd d = omega arith
-
-  pub writes-first : (bit1 m ≡ 1 → ⊥) → set ms a (m + 2) ≡ markWrite ms a
-  writes-first n = ap (set ms a) (write-first m n)
-
-  pub writes-again : bit1 m ≡ 1 → ms ≡ markWrite ms a
-  writes-again e = sym (set-getD ms a 0) ∙ ap (set ms a) (write-again m e)
 
 -- a property of a mark after a read, by the three cases
 read-cases : (m : ℕ) (P : ℕ → Type 0) → (bit1 m ≡ 1 → P m) → (bit0 m ≡ 1 → P m) → ((bit1 m ≡ 1 → ⊥) → (bit0 m ≡ 1 → ⊥) → P (m + 1)) → P (readMark m)

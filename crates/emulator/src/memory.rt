@@ -1,8 +1,7 @@
 // Access to lent memory, with marks.
 ghost use mathlib.Core.Path.{_≡_};
-ghost use Prim.Native.Nat.{_<_};
 ghost use lib.ListN.{length, set, replicate};
-ghost use Rattle.emulator.specs.Memory.{markRead, markWrite, readOf, writtenOf};
+ghost use Rattle.emulator.specs.Memory.{readMark, writeMark, markRead, markWrite, readOf, writtenOf};
 
 // What a read finds.
 pub enum Read {
@@ -16,28 +15,21 @@ pub enum Written {
     Outside,
 }
 
-// Marks an address as read: bit 0 is set, unless bit 1 is. Most reads find the mark as it will be, and store nothing.
-fn mark_read(marks: &mut [u8], at: usize)
-    requires { ⌜ at < length (now marks) ⌝ }
-    ensures { λ r. ⌜ now (marks .exit) ≡ markRead (now (marks .entry)) at ⌝ }
+// A mark after a read: bit 0 is set, unless bit 1 is.
+fn read_mark(m: u8) -> u8
+    ensures { λ r. ⌜ r ≡ readMark m ⌝ }
 {
-    let m = marks[at];
-    if m % 4 != 0 {
-        return;
+    if m / 2 % 2 == 1 {
+        return m;
     }
-    marks[at] = m + 1;
+    if m % 2 == 1 { m } else { m + 1 }
 }
 
-// Marks an address as written: bit 1 is set.
-fn mark_written(marks: &mut [u8], at: usize)
-    requires { ⌜ at < length (now marks) ⌝ }
-    ensures { λ r. ⌜ now (marks .exit) ≡ markWrite (now (marks .entry)) at ⌝ }
+// A mark after a write: bit 1 is set.
+fn write_mark(m: u8) -> u8
+    ensures { λ r. ⌜ r ≡ writeMark m ⌝ }
 {
-    let m = marks[at];
-    if m / 2 % 2 == 1 {
-        return;
-    }
-    marks[at] = m + 2;
+    if m / 2 % 2 == 1 { m } else { m + 2 }
 }
 
 // The word at an address, which is marked as read.
@@ -50,7 +42,7 @@ pub fn read_word(memory: &[u16], marks: &mut [u8], address: u16) -> Read
     if memory.len() <= at {
         return Read::Outside;
     }
-    mark_read(marks, at);
+    marks[at] = read_mark(marks[at]);
     Read::Word(memory[at])
 }
 
@@ -65,7 +57,7 @@ pub fn write_word(memory: &mut [u16], marks: &mut [u8], address: u16, value: u16
     if memory.len() <= at {
         return Written::Outside;
     }
-    mark_written(marks, at);
+    marks[at] = write_mark(marks[at]);
     memory[at] = value;
     Written::Done
 }

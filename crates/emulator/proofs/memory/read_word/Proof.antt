@@ -1,6 +1,5 @@
 -- `emulator::memory::read_word` meets its contract, by the range of the address.
--- Assumes nothing.
-use Rattle.emulator.proofs.Laws.{read-in, read-past, set-past-marks}
+use Rattle.emulator.proofs.Laws.{read-in, read-past, set-to, set-past-marks}
 use borrow.Author.Needs.{needs}
 use Rattle.emulator.proofs.memory.read_word.Statement.{statement}
 use Rattle.emulator.proofs.memory.read_word.Tie as tie
@@ -10,8 +9,10 @@ read-word-spec =
     tie.close
     (tie.spec
     (λ c. search (read-past, set-past-marks))
+    (λ c. search needs)
     (λ c κs. search needs)
     (λ c. search needs)
     (λ c. search needs)
     (λ c. search needs)
-    (λ c. search read-in))
+    (λ c. search needs)
+    (λ c. search (read-in, set-to)))

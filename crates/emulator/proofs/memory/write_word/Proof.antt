@@ -1,6 +1,5 @@
 -- `emulator::memory::write_word` meets its contract, by the range of the address.
--- Assumes nothing.
-use Rattle.emulator.proofs.Laws.{write-in, write-past, set-past, set-past-marks}
+use Rattle.emulator.proofs.Laws.{write-in, write-past, set-to, set-past, set-past-marks}
 use borrow.Author.Needs.{needs}
 use Rattle.emulator.proofs.memory.write_word.Statement.{statement}
 use Rattle.emulator.proofs.memory.write_word.Tie as tie
@@ -10,9 +9,11 @@ write-word-spec =
     tie.close
     (tie.spec
     (λ c. search (write-past, set-past, set-past-marks))
+    (λ c. search needs)
     (λ c κs. search needs)
     (λ c. search needs)
     (λ c. search needs)
     (λ c. search needs)
     (λ c. search needs)
-    (λ c. search write-in))
+    (λ c. search needs)
+    (λ c. search (write-in, set-to)))
