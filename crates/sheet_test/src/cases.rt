@@ -1,7 +1,7 @@
 // What is loaded and written.
 
 // Sheets, each after the number of its records.
-pub const SHEETS: [u32; 140] = [
+pub const SHEETS: [u32; 218] = [
     // Accepted: the end alone
     1,
     0xF0000000,
@@ -62,6 +62,46 @@ pub const SHEETS: [u32; 140] = [
     2,
     0x10010000,
     0xF0000000,
+    // bit 17 of a place
+    2,
+    0x10020000,
+    0xF0000000,
+    // bit 18 of a place
+    2,
+    0x10040000,
+    0xF0000000,
+    // bit 19 of a place
+    2,
+    0x10080000,
+    0xF0000000,
+    // bit 20 of a place
+    2,
+    0x10100000,
+    0xF0000000,
+    // bit 21 of a place
+    2,
+    0x10200000,
+    0xF0000000,
+    // bit 22 of a place
+    2,
+    0x10400000,
+    0xF0000000,
+    // bit 23 of a place
+    2,
+    0x10800000,
+    0xF0000000,
+    // bit 24 of a place
+    2,
+    0x11000000,
+    0xF0000000,
+    // bit 25 of a place
+    2,
+    0x12000000,
+    0xF0000000,
+    // bit 26 of a place
+    2,
+    0x14000000,
+    0xF0000000,
     // bit 27 of a place
     2,
     0x18000000,
@@ -70,6 +110,46 @@ pub const SHEETS: [u32; 140] = [
     2,
     0x20010000,
     0xF0000001,
+    // bit 17 of a word
+    2,
+    0x20020000,
+    0xF0000001,
+    // bit 18 of a word
+    2,
+    0x20040000,
+    0xF0000001,
+    // bit 19 of a word
+    2,
+    0x20080000,
+    0xF0000001,
+    // bit 20 of a word
+    2,
+    0x20100000,
+    0xF0000001,
+    // bit 21 of a word
+    2,
+    0x20200000,
+    0xF0000001,
+    // bit 22 of a word
+    2,
+    0x20400000,
+    0xF0000001,
+    // bit 23 of a word
+    2,
+    0x20800000,
+    0xF0000001,
+    // bit 24 of a word
+    2,
+    0x21000000,
+    0xF0000001,
+    // bit 25 of a word
+    2,
+    0x22000000,
+    0xF0000001,
+    // bit 26 of a word
+    2,
+    0x24000000,
+    0xF0000001,
     // bit 27 of a word
     2,
     0x28000000,
@@ -77,6 +157,30 @@ pub const SHEETS: [u32; 140] = [
     // bit 20 of a preset
     2,
     0x30100000,
+    0xF0000000,
+    // bit 21 of a preset
+    2,
+    0x30200000,
+    0xF0000000,
+    // bit 22 of a preset
+    2,
+    0x30400000,
+    0xF0000000,
+    // bit 23 of a preset
+    2,
+    0x30800000,
+    0xF0000000,
+    // bit 24 of a preset
+    2,
+    0x31000000,
+    0xF0000000,
+    // bit 25 of a preset
+    2,
+    0x32000000,
+    0xF0000000,
+    // bit 26 of a preset
+    2,
+    0x34000000,
     0xF0000000,
     // bit 27 of a preset
     2,
