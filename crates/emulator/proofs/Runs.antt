@@ -8,8 +8,7 @@ use native.Mathlib.Omega.{arith}
 use lib.Dec.{ltb, eqb}
 use lib.ListN.{length, replicate, length-replicate}
 use borrow.Author.Tests.{eq-eqb, ne-eqb, eqb-true, eqb-false}
-use Rattle.execute.specs.Flags.{haltOf}
-use Rattle.emulator.specs.Core.{coreOf, isHalted}
+use Rattle.emulator.specs.Core.{isHalted}
 use Rattle.emulator.specs.Outcome.{Outcome, stepped, halted, limit, fault, refused, stopOf, progressOf, answerOf, endOf}
 use Rattle.emulator.specs.Machine.{Access, none, load, store, stop, Turn, turn, makeOf, cycleOf, refusalOf, stepOf, Ran, ran, nextOf, runFrom, runOf}
 use Rattle.emulator.specs.declared.core.Answer.{Answer}
@@ -61,12 +60,8 @@ running-start most c mem ms l =
     let same : most - 0 ≡ most = omega arith in
     record { within = omega arith; level = l; size = refl; mark-size = refl; rest = rw same }
 
-module _ {most : ℕ} {c₀ : Core} {mem₀ ms₀ : List ℕ} (gprs : List ℕ) (ip rp sp ef : ℕ) (mem ms : List ℕ) (n : ℕ)
-    (now : Running most c₀ mem₀ ms₀ (coreOf gprs ip rp sp ef) mem ms n) where
-  abbrev c : Core
-  c = coreOf gprs ip rp sp ef
-
-  pub running-step : {h : Bool} {d : Core} {mem′ ms′ : List ℕ} {x : Progress} → h ≡ haltOf ef → h ≡ false → (n ≡ most → ⊥)
+module _ {most n : ℕ} {c₀ c : Core} {mem₀ ms₀ mem ms : List ℕ} (now : Running most c₀ mem₀ ms₀ c mem ms n) where
+  pub running-step : {h : Bool} {d : Core} {mem′ ms′ : List ℕ} {x : Progress} → h ≡ isHalted c → h ≡ false → (n ≡ most → ⊥)
       → turn (progressOf x) d mem′ ms′ ≡ cycleOf c mem ms → x ≡ Progress.Stepped → Running most c₀ mem₀ ms₀ d mem′ ms′ (n + 1)
   running-step {mem′ = mem′} {ms′ = ms′} p q below t e =
       let w : n ≤ most = now .within in
@@ -81,15 +76,15 @@ module _ {most : ℕ} {c₀ : Core} {mem₀ ms₀ : List ℕ} (gprs : List ℕ) 
       }
 
   -- the ends
-  pub end-halted : {h : Bool} → h ≡ haltOf ef → h ≡ true → ran halted n c mem ms ≡ runFrom most 0 c₀ mem₀ ms₀
+  pub end-halted : {h : Bool} → h ≡ isHalted c → h ≡ true → ran halted n c mem ms ≡ runFrom most 0 c₀ mem₀ ms₀
   end-halted p q = sym (run-halted c mem ms n (most - n) (sym p ∙ q)) ∙ now .rest
 
-  pub end-limit : {h : Bool} → h ≡ haltOf ef → h ≡ false → n ≡ most → ran limit n c mem ms ≡ runFrom most 0 c₀ mem₀ ms₀
+  pub end-limit : {h : Bool} → h ≡ isHalted c → h ≡ false → n ≡ most → ran limit n c mem ms ≡ runFrom most 0 c₀ mem₀ ms₀
   end-limit p q e =
       let none-left : most - n ≡ 0 = omega arith in
       sym (ap (λ (k : ℕ). runFrom k n c mem ms) none-left ∙ run-limit c mem ms n (sym p ∙ q)) ∙ now .rest
 
-  pub end-fault : {h : Bool} {x : Progress} {d : Core} {mem′ ms′ : List ℕ} {s : Stop} → h ≡ haltOf ef → h ≡ false → (n ≡ most → ⊥)
+  pub end-fault : {h : Bool} {x : Progress} {d : Core} {mem′ ms′ : List ℕ} {s : Stop} → h ≡ isHalted c → h ≡ false → (n ≡ most → ⊥)
       → turn (progressOf x) d mem′ ms′ ≡ cycleOf c mem ms → x ≡ Progress.Fault s → ran (stopOf s) n d mem′ ms′ ≡ runFrom most 0 c₀ mem₀ ms₀
   end-fault {d = d} {mem′ = mem′} {ms′ = ms′} {s = s} p q below t e =
       let w : n ≤ most = now .within in

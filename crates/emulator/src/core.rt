@@ -163,24 +163,8 @@ impl Core {
                 answer: Answer::Refused(refused),
             };
         }
-        let mut gprs = self.gprs;
-        let t = turns(
-            &mut gprs,
-            self.ip,
-            self.rp,
-            self.sp,
-            self.ef,
-            memory,
-            marks,
-            1,
-        );
-        let core = Core {
-            gprs,
-            ip: t.ip,
-            rp: t.rp,
-            sp: t.sp,
-            ef: t.ef,
-        };
+        let t = turns(self, memory, marks, 1);
+        let core = t.core;
         let end = t.end;
         let answer = answered(t.steps, end);
         Step { core, answer }
@@ -199,29 +183,6 @@ impl Core {
             };
         }
         clear(marks);
-        let mut gprs = self.gprs;
-        let t = turns(
-            &mut gprs,
-            self.ip,
-            self.rp,
-            self.sp,
-            self.ef,
-            memory,
-            marks,
-            limit,
-        );
-        let core = Core {
-            gprs,
-            ip: t.ip,
-            rp: t.rp,
-            sp: t.sp,
-            ef: t.ef,
-        };
-        let end = t.end;
-        Run {
-            core,
-            steps: t.steps,
-            end,
-        }
+        turns(self, memory, marks, limit)
     }
 }

@@ -1,5 +1,7 @@
-// One cycle and the loop of cycles. The eight general registers are lent as an array and the others go by value: a whole core that goes
-// by value through every call is copied at each.
+// One cycle and the loop of cycles. The loop takes the core apart once: its calls are lent the eight general registers as an array and
+// get the others by value, since a whole core by value is copied at each call.
+use crate::core::Core;
+use crate::core::Run;
 use crate::memory::Read;
 use crate::memory::Written;
 use crate::memory::read_word;
@@ -49,16 +51,6 @@ struct Turn {
     sp: u16,
     ef: u16,
     progress: Progress,
-}
-
-// The special registers after the loop.
-pub struct Ended {
-    pub ip: u16,
-    pub rp: u16,
-    pub sp: u16,
-    pub ef: u16,
-    pub steps: u32,
-    pub end: End,
 }
 
 // The special registers after a cycle that stepped, and after one that faulted.
@@ -170,36 +162,28 @@ fn cycle(
 }
 
 // Cycles up to the limit: each turn tests halt first, then the limit. A cycle that faults isn't counted.
-pub fn turns(
-    gprs: &mut [u16; 8],
-    ip: u16,
-    rp: u16,
-    sp: u16,
-    ef: u16,
-    memory: &mut [u16],
-    marks: &mut [u8],
-    limit: u32,
-) -> Ended
+pub fn turns(core: Core, memory: &mut [u16], marks: &mut [u8], limit: u32) -> Run
     requires { ⌜ length (now marks) ≡ length (now memory) ⌝ }
-    ensures { λ r. ⌜ ran (endOf (r .end)) (r .steps) (coreOf (now (gprs .exit)) (r .ip) (r .rp) (r .sp) (r .ef)) (now (memory .exit)) (now (marks .exit)) ≡ runFrom limit 0 (coreOf (now (gprs .entry)) ip rp sp ef) (now (memory .entry)) (now (marks .entry)) ⌝ }
+    ensures { λ r. ⌜ ran (endOf (r .end)) (r .steps) (r .core) (now (memory .exit)) (now (marks .exit)) ≡ runFrom limit 0 core (now (memory .entry)) (now (marks .entry)) ⌝ }
 {
-    let mut at_ip = ip;
-    let mut at_rp = rp;
-    let mut at_sp = sp;
-    let mut at_ef = ef;
+    let mut gprs = core.gprs;
+    let mut ip = core.ip;
+    let mut rp = core.rp;
+    let mut sp = core.sp;
+    let mut ef = core.ef;
     let mut steps: u32 = 0;
     let end = loop {
-        if execute::is_halted(at_ef) {
+        if execute::is_halted(ef) {
             break End::Halted;
         }
         if steps == limit {
             break End::Limit;
         }
-        let t = cycle(gprs, at_ip, at_rp, at_sp, at_ef, memory, marks);
-        at_ip = t.ip;
-        at_rp = t.rp;
-        at_sp = t.sp;
-        at_ef = t.ef;
+        let t = cycle(&mut gprs, ip, rp, sp, ef, memory, marks);
+        ip = t.ip;
+        rp = t.rp;
+        sp = t.sp;
+        ef = t.ef;
         let progress = t.progress;
         match progress {
             Progress::Stepped => {
@@ -210,11 +194,15 @@ pub fn turns(
             }
         }
     };
-    Ended {
-        ip: at_ip,
-        rp: at_rp,
-        sp: at_sp,
-        ef: at_ef,
+    let after = Core {
+        gprs,
+        ip,
+        rp,
+        sp,
+        ef,
+    };
+    Run {
+        core: after,
         steps,
         end,
     }

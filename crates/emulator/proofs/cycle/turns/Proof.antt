@@ -8,12 +8,11 @@ use Rattle.emulator.proofs.cycle.turns.Statement.{statement}
 use Rattle.emulator.proofs.cycle.turns.Tie as tie
 
 abbrev Inv-loop : tie.InvT-loop
-Inv-loop gprs₀ ip rp sp ef memory₀ marks₀ limit at-ip₀ at-rp₀ at-sp₀ at-ef₀ steps₀ gprs memory marks at-ip at-rp at-sp at-ef steps =
-    Running limit (coreOf gprs₀ ip rp sp ef) memory₀ marks₀ (coreOf gprs at-ip at-rp at-sp at-ef) memory marks steps
+Inv-loop memory₀ marks₀ limit gprs₀ ip₀ rp₀ sp₀ ef₀ steps₀ memory marks gprs ip rp sp ef steps =
+    Running limit (coreOf gprs₀ ip₀ rp₀ sp₀ ef₀) memory₀ marks₀ (coreOf gprs ip rp sp ef) memory marks steps
 
 abbrev μ-loop : tie.MeasureT-loop
-μ-loop gprs₀ ip rp sp ef memory₀ marks₀ limit at-ip₀ at-rp₀ at-sp₀ at-ef₀ steps₀ gprs memory marks at-ip at-rp at-sp at-ef steps =
-    limit - steps
+μ-loop memory₀ marks₀ limit gprs₀ ip₀ rp₀ sp₀ ef₀ steps₀ memory marks gprs ip rp sp ef steps = limit - steps
 
 pub turns-spec : {M : Type 1} → statement M
 turns-spec =
