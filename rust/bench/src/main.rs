@@ -12,6 +12,7 @@ use nilguseg::{Core, End};
 
 const ROUNDS: usize = 5;
 const STEPS: u32 = 10_000_000;
+const STARTS: usize = 21;
 
 /// What is measured: its name, the cargo profile it is built in, and the machine.
 const MACHINES: [(&str, &str, &str); 3] = [
@@ -22,10 +23,10 @@ const MACHINES: [(&str, &str, &str); 3] = [
 
 fn main() {
     let berth = std::env::args().nth(1).expect("usage: bench BERTH");
-    loops_table();
+    let unchecked = loops_table();
     sheets();
     if Path::new(&berth).is_file() {
-        start_to_line(&berth);
+        start_to_line(&berth, &unchecked);
     } else {
         println!("\nskipped: the program berth, which is not at {berth}");
     }
@@ -50,8 +51,9 @@ fn measured(profile: &str, machine: &str) -> Vec<(f64, String)> {
     lines.lines().map(parse).collect()
 }
 
-/// Rounds in which each machine takes its turn, so that a neighbour's load falls on all alike.
-fn loops_table() {
+/// Rounds in which each machine takes its turn, so that a neighbour's load falls on all alike. Returns the times
+/// of the published Rust with overflow checks off.
+fn loops_table() -> Vec<f64> {
     let names = loops().map(|(name, _)| name);
     let mut times = vec![vec![Vec::new(); names.len()]; MACHINES.len()];
     for _ in 0..ROUNDS {
@@ -65,15 +67,19 @@ fn loops_table() {
     }
     println!("CPU nanoseconds per step; {STEPS} steps, median of {ROUNDS} interleaved rounds; equal final states");
     print_row("", names);
-    let medians: Vec<Vec<f64>> = times.into_iter().map(|times| times.into_iter().map(median).collect()).collect();
+    let mut medians: Vec<Vec<f64>> = times.into_iter().map(|times| times.into_iter().map(median).collect()).collect();
     for ((name, _, _), medians) in MACHINES.iter().zip(&medians) {
         print_row(name, medians.iter().map(|time| format!("{time:.2}")));
     }
     for ((name, _, _), published) in MACHINES.iter().zip(&medians).take(2) {
-        let ratios =
-            published.iter().zip(&medians[2]).map(|(published, library)| format!("{:.2}", published / library));
-        print_row(&format!("times as fast as {name}"), ratios);
+        print_shares(&format!("share of {name}"), &medians[2], published);
     }
+    medians.swap_remove(0)
+}
+
+/// A row of what part of the times `of` the `times` are.
+fn print_shares(name: &str, times: &[f64], of: &[f64]) {
+    print_row(name, times.iter().zip(of).map(|(time, of)| format!("{:.2}", time / of)));
 }
 
 /// A full sheet: 65,536 words, none of them 0.
@@ -124,18 +130,27 @@ fn timed_line(berth: &str, sheet: &[u32]) -> (f64, String) {
     (time, String::from_utf8(output.stdout).unwrap())
 }
 
-fn start_to_line(berth: &str) {
-    println!("\nthe program berth from start to line, in milliseconds of wall time, median of 21");
-    let [(_, arithmetic), ..] = loops();
-    for (name, words) in [("the example, 2 steps", vec![0x1003, 0xFFFF]), ("1,000,000 steps of arithmetic", arithmetic)]
-    {
-        let sheet = sheet_of(&words);
-        let expected = expected_line(&sheet);
-        let times = (0..21).map(|_| {
-            let (time, line) = timed_line(berth, &sheet);
-            assert_eq!(line, expected, "the line of {name}");
-            time
-        });
-        print_row(name, [format!("{:.2}", median(times.collect()))]);
-    }
+/// The times of the example and of 1,000,000 steps of each loop, and what a step takes beyond the example.
+fn start_to_line(berth: &str, unchecked: &[f64]) {
+    println!("\nthe program berth from start to line, in milliseconds of wall time, median of {STARTS}");
+    let example = median_line(berth, &[0x1003, 0xFFFF]);
+    print_row("the example, 2 steps", [format!("{example:.2}")]);
+    print_row("", loops().map(|(name, _)| name));
+    let times = loops().map(|(_, words)| median_line(berth, &words));
+    print_row("1,000,000 steps", times.map(|time| format!("{time:.2}")));
+    let steps = times.map(|time| time - example);
+    print_row("nanoseconds per step beyond the example", steps.map(|time| format!("{time:.2}")));
+    print_shares("share of published Rust, overflow checks off", &steps, unchecked);
+}
+
+/// The median time of berth on a list of words, in milliseconds.
+fn median_line(berth: &str, words: &[u16]) -> f64 {
+    let sheet = sheet_of(words);
+    let expected = expected_line(&sheet);
+    let times = (0..STARTS).map(|_| {
+        let (time, line) = timed_line(berth, &sheet);
+        assert_eq!(line, expected, "the line of {words:?}");
+        time
+    });
+    median(times.collect())
 }
