@@ -5,10 +5,9 @@ use crate::reg::GPR;
 use crate::reg::SPR;
 use opcode::InstructionOpcode;
 ghost use mathlib.Core.Path.{_≡_};
-ghost use Prim.Native.Nat.{_<_, _/_};
+ghost use Prim.Native.Nat.{_<_};
 ghost use Rattle.instructions.specs.Encoding.{encodeOf, pairOf, slotOf, immediateOf};
-ghost use Rattle.instructions.specs.Decoding.{operandsOf, answerOf, decodeOf};
-ghost use Rattle.instructions.specs.Reg.{gprAt};
+ghost use Rattle.instructions.specs.Decoding.{instructionOf, answerOf, decodeOf};
 
 // What decoding a word answers.
 pub enum Decoded {
@@ -85,11 +84,7 @@ impl Instruction {
     pub fn decode(bits: u16) -> Decoded
         ensures { λ r. ⌜ answerOf r ≡ decodeOf bits ⌝ }
     {
-        let hi = (bits / 256) as u8;
-        let lo = bits % 256;
-        let p = GPR::from_low_bits(lo / 16);
-        let q = GPR::from_low_bits(lo);
-        with_operands(opcode::opcode(hi, lo), hi as u16, lo, p, q, bits)
+        with_operands(opcode::opcode((bits / 256) as u8, bits % 256), bits)
     }
 }
 
@@ -114,14 +109,15 @@ fn immediate(reg: GPR, imm: u8) -> u16
     reg.encode() * 256 + imm as u16
 }
 
-// The instruction with this opcode, with the operands that the bytes of the word hold; p and q are those of most kinds. They are made before
-// the opcode is known, so that each way to an opcode leads straight to its arm.
-fn with_operands(opcode: InstructionOpcode, hi: u16, lo: u16, p: GPR, q: GPR, bits: u16) -> Decoded
-    requires { ⌜ lo < 256 ⌝ }
-    requires { ⌜ p ≡ gprAt (lo / 16) ⌝ }
-    requires { ⌜ q ≡ gprAt lo ⌝ }
-    ensures { λ r. ⌜ answerOf r ≡ operandsOf opcode bits hi lo ⌝ }
+// The instruction with this opcode, with the operands that the word holds.
+fn with_operands(opcode: InstructionOpcode, bits: u16) -> Decoded
+    ensures { λ r. ⌜ answerOf r ≡ instructionOf opcode bits ⌝ }
 {
+    let hi = bits / 256;
+    let lo = bits % 256;
+    let p = GPR::from_low_bits(lo / 16);
+    let q = GPR::from_low_bits(lo);
+    let byte = lo as u8;
     let ins = match opcode {
         InstructionOpcode::Undecodable => return Decoded::Undecodable(bits),
 
@@ -137,11 +133,11 @@ fn with_operands(opcode: InstructionOpcode, hi: u16, lo: u16, p: GPR, q: GPR, bi
         // Immediate loads
         InstructionOpcode::Putl => Instruction::Putl {
             reg: GPR::from_low_bits(hi),
-            imm: lo as u8,
+            imm: byte,
         },
         InstructionOpcode::Puth => Instruction::Puth {
             reg: GPR::from_low_bits(hi),
-            imm: lo as u8,
+            imm: byte,
         },
 
         // Memory
@@ -205,8 +201,8 @@ fn with_operands(opcode: InstructionOpcode, hi: u16, lo: u16, p: GPR, q: GPR, bi
         InstructionOpcode::Gteq => Instruction::Gteq { left: p, right: q },
 
         // Branching
-        InstructionOpcode::Jmpoff => Instruction::Jmpoff { offset: lo as u8 },
-        InstructionOpcode::Cjmpoff => Instruction::Cjmpoff { offset: lo as u8 },
+        InstructionOpcode::Jmpoff => Instruction::Jmpoff { offset: byte },
+        InstructionOpcode::Cjmpoff => Instruction::Cjmpoff { offset: byte },
         InstructionOpcode::Cjmp => Instruction::Cjmp { src: q },
         InstructionOpcode::Call => Instruction::Call { src: q },
         InstructionOpcode::Ret => Instruction::Ret,
