@@ -69,10 +69,6 @@ operandsOf Cjmp w hi lo = gives (Instruction.Cjmp (gprAt lo))
 operandsOf Call w hi lo = gives (Instruction.Call (gprAt lo))
 operandsOf Ret w hi lo = gives Instruction.Ret
 
--- the same, with the bytes of the word
-abbrev pub instructionOf : InstructionOpcode → ℕ → Answer Instruction
-instructionOf k w = operandsOf k w (w / 256) (w % 256)
-
 -- the word w with the upper byte hi and the lower byte lo
 abbrev pub decodeBytes : ℕ → ℕ → ℕ → Answer Instruction
 decodeBytes w hi lo = operandsOf (opcodeOf hi lo) w hi lo

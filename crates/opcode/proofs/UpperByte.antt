@@ -18,12 +18,12 @@ module _ (hi lo : ℕ) where
   pub is-puth : 0x18 ≤ hi → hi < 0x20 → Puth ≡ opcodeOf hi lo
   is-puth l h = simp (ne-eqb hi 0 (omega arith), ne-eqb (hi / 8) 2 (omega arith), eq-eqb (hi / 8) 3 (omega arith))
 
--- hi is none of the keys, as a match tells it of its last arm
+-- hi is none of the keys
 abbrev pub NoneOf : ℕ → List ℕ → Type 0
 NoneOf hi [] = Unit {0}
 NoneOf hi (k ∷ ks) = NoneOf hi ks × (hi ≡ k → ⊥)
 
--- the upper bytes that stand alone, the last first
+-- the upper bytes of `opcodeOf` but those of putl and puth, the last first
 abbrev pub alone : List ℕ
 alone =
     0xFF ∷ 0x63 ∷ 0x62 ∷ 0x61 ∷ 0x60 ∷ 0x53 ∷ 0x52 ∷ 0x51 ∷ 0x50 ∷ 0x4B ∷ 0x4A ∷ 0x49 ∷ 0x48 ∷ 0x47

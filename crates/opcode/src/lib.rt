@@ -1,7 +1,7 @@
-// The opcode of a word, by ranges of its upper and its lower byte: the first half of decoding.
+// The opcode of a word, by ranges of words: the first half of decoding.
 ghost use mathlib.Core.Path.{_≡_};
-ghost use Prim.Native.Nat.{_<_, _≤_};
-ghost use Rattle.opcode.specs.Opcode.{aloneOf, singleOf, pairedOf, memoryOf, movesOf, pointerOf, stackOf, slotsOf, andsOf, unaryOf, zeroOf, callsOf, opcodeOf};
+ghost use Prim.Native.Nat.{_/_, _%_, _<_, _≤_};
+ghost use Rattle.opcode.specs.Opcode.{registerOf, registerOrDecimalOf, pairedOf, unaryOf, opcodeOf};
 
 // The kind of an instruction, or that a word is undecodable. One flat enum, so that it takes one byte.
 pub enum InstructionOpcode {
@@ -67,164 +67,215 @@ pub enum InstructionOpcode {
     Ret,
 }
 
-// The opcode, by ranges of the upper byte and then of the lower byte. The upper bytes are told apart by comparisons, halving what is left:
-// processors predict these better than a jump through a table, which four or more single values in one `match` become.
-pub fn opcode(hi: u8, lo: u16) -> InstructionOpcode
-    ensures { λ r. ⌜ r ≡ opcodeOf hi lo ⌝ }
+// The opcode, by ranges of the word. They are told apart by comparisons that halve what is left: processors predict these better than the
+// jump through a table that single values of the upper byte become.
+pub fn opcode(bits: u16) -> InstructionOpcode
+    ensures { λ r. ⌜ r ≡ opcodeOf (bits / 256) (bits % 256) ⌝ }
 {
-    match hi {
-        0x00..=0x43 => match hi {
-            0x00..=0x1F => immediates(hi, lo),
-            0x20..=0x3F => transfers(hi, lo),
-            _ => logic(hi, lo),
+    match bits {
+        0x0000..=0x3FFF => match bits {
+            0x0000..=0x20FF => loads(bits),
+            _ => transfers(bits),
         },
-        0x44..=0x4F => match hi {
-            0x44..=0x47 => shifts(hi, lo),
-            _ => arithmetic(hi, lo),
+        0x4000..=0x4FFF => match bits {
+            0x4000..=0x47FF => logic(bits),
+            _ => arithmetic(bits),
         },
-        _ => match hi {
-            0x50..=0x5F => comparison(hi, lo),
-            _ => branching(hi, lo),
+        _ => match bits {
+            0x5000..=0x5FFF => comparison(bits),
+            _ => branching(bits),
         },
     }
 }
 
-// Immediate loads, and nop.
-fn immediates(hi: u8, lo: u16) -> InstructionOpcode
-    requires { ⌜ hi < 0x20 ⌝ }
-    ensures { λ r. ⌜ r ≡ opcodeOf hi lo ⌝ }
+// Immediate loads, and memory at an address in a register.
+fn loads(bits: u16) -> InstructionOpcode
+    requires { ⌜ bits < 0x2100 ⌝ }
+    ensures { λ r. ⌜ r ≡ opcodeOf (bits / 256) (bits % 256) ⌝ }
 {
-    match hi {
-        0x10..=0x17 => InstructionOpcode::Putl,
-        0x18..=0x1F => InstructionOpcode::Puth,
-        0x00 => alone(lo, 0x00, InstructionOpcode::Nop),
+    match bits {
+        0x0000..=0x1FFF => match bits {
+            0x1000..=0x17FF => InstructionOpcode::Putl,
+            0x1800..=0x1FFF => InstructionOpcode::Puth,
+            0x0000 => InstructionOpcode::Nop,
+            _ => InstructionOpcode::Undecodable,
+        },
+        _ => match bits {
+            0x2000..=0x207F => register_or_decimal(
+                bits,
+                InstructionOpcode::Read,
+                InstructionOpcode::DRead,
+            ),
+            _ => register_or_decimal(bits, InstructionOpcode::Write, InstructionOpcode::DWrite),
+        },
+    }
+}
+
+// Between registers, and the stack.
+fn transfers(bits: u16) -> InstructionOpcode
+    requires { ⌜ (0x2100 ≤ bits) × (bits < 0x4000) ⌝ }
+    ensures { λ r. ⌜ r ≡ opcodeOf (bits / 256) (bits % 256) ⌝ }
+{
+    match bits {
+        0x2100..=0x21FF => moves(bits),
+        0x2200..=0x23FF => match bits {
+            0x2200..=0x22FF => pointer(bits),
+            _ => stack(bits),
+        },
+        _ => slots(bits),
+    }
+}
+
+// 0sss0ddd, 00ss10dd, 10ss0ddd, 11dd0sss, 11011rrr.
+fn moves(bits: u16) -> InstructionOpcode
+    requires { ⌜ (0x2100 ≤ bits) × (bits < 0x2200) ⌝ }
+    ensures { λ r. ⌜ r ≡ opcodeOf (bits / 256) (bits % 256) ⌝ }
+{
+    match bits {
+        0x2100..=0x213F => register_or_decimal(
+            bits,
+            InstructionOpcode::Mov,
+            InstructionOpcode::DMov,
+        ),
+        0x2140..=0x217F => register(bits, InstructionOpcode::Mov),
+        0x2180..=0x21BF => register(bits, InstructionOpcode::Movso),
+        0x21D8..=0x21DF => InstructionOpcode::Spadd,
+        _ => register(bits, InstructionOpcode::Movsi),
+    }
+}
+
+// The stack pointer, by one.
+fn pointer(bits: u16) -> InstructionOpcode
+    requires { ⌜ (0x2200 ≤ bits) × (bits < 0x2300) ⌝ }
+    ensures { λ r. ⌜ r ≡ opcodeOf (bits / 256) (bits % 256) ⌝ }
+{
+    match bits {
+        0x22D0 => InstructionOpcode::Spinc,
+        0x22D1 => InstructionOpcode::Spdec,
         _ => InstructionOpcode::Undecodable,
     }
 }
 
-// Between registers, and to and from memory.
-fn transfers(hi: u8, lo: u16) -> InstructionOpcode
-    requires { ⌜ (0x20 ≤ hi) × (hi < 0x40) ⌝ }
-    ensures { λ r. ⌜ r ≡ opcodeOf hi lo ⌝ }
+// 11010rrr, 11011rrr.
+fn stack(bits: u16) -> InstructionOpcode
+    requires { ⌜ (0x2300 ≤ bits) × (bits < 0x2400) ⌝ }
+    ensures { λ r. ⌜ r ≡ opcodeOf (bits / 256) (bits % 256) ⌝ }
 {
-    match hi {
-        0x20..=0x21 => match hi {
-            0x20 => memory(lo),
-            _ => moves(lo),
-        },
-        0x22..=0x23 => match hi {
-            0x22 => pointer(lo),
-            _ => stack(lo),
-        },
-        0x30 => slots(lo),
+    match bits {
+        0x23D0..=0x23D7 => InstructionOpcode::Push,
+        0x23D8..=0x23DF => InstructionOpcode::Pop,
         _ => InstructionOpcode::Undecodable,
     }
 }
 
-// Bit by bit.
-fn logic(hi: u8, lo: u16) -> InstructionOpcode
-    requires { ⌜ (0x40 ≤ hi) × (hi < 0x44) ⌝ }
-    ensures { λ r. ⌜ r ≡ opcodeOf hi lo ⌝ }
+// Memory at an offset from the stack pointer: 0rrriiii, 1rrriiii.
+fn slots(bits: u16) -> InstructionOpcode
+    requires { ⌜ (0x2400 ≤ bits) × (bits < 0x4000) ⌝ }
+    ensures { λ r. ⌜ r ≡ opcodeOf (bits / 256) (bits % 256) ⌝ }
 {
-    match hi {
-        0x40..=0x41 => match hi {
-            0x40 => single(lo, InstructionOpcode::Not),
-            _ => ands(lo),
-        },
-        _ => match hi {
-            0x42 => paired(lo, InstructionOpcode::Or),
-            _ => paired(lo, InstructionOpcode::Xor),
-        },
+    match bits {
+        0x3000..=0x307F => InstructionOpcode::Spread,
+        0x3080..=0x30FF => InstructionOpcode::Spwrite,
+        _ => InstructionOpcode::Undecodable,
     }
 }
 
-// By an amount of bits, and one bit.
-fn shifts(hi: u8, lo: u16) -> InstructionOpcode
-    requires { ⌜ (0x44 ≤ hi) × (hi < 0x48) ⌝ }
-    ensures { λ r. ⌜ r ≡ opcodeOf hi lo ⌝ }
+// Bit manipulation.
+fn logic(bits: u16) -> InstructionOpcode
+    requires { ⌜ (0x4000 ≤ bits) × (bits < 0x4800) ⌝ }
+    ensures { λ r. ⌜ r ≡ opcodeOf (bits / 256) (bits % 256) ⌝ }
 {
-    match hi {
-        0x44..=0x45 => match hi {
-            0x44 => paired(lo, InstructionOpcode::Shl),
-            _ => paired(lo, InstructionOpcode::Shr),
+    match bits {
+        0x4000..=0x42FF => match bits {
+            0x4000..=0x4007 => InstructionOpcode::Not,
+            0x4100..=0x417F => register(bits, InstructionOpcode::And),
+            0x4180..=0x41FF => register(bits, InstructionOpcode::Booland),
+            0x4200..=0x42FF => paired(bits % 256, InstructionOpcode::Or),
+            _ => InstructionOpcode::Undecodable,
         },
-        0x47 => paired(lo, InstructionOpcode::Bitset),
-        _ => InstructionOpcode::Undecodable,
+        _ => match bits {
+            0x4300..=0x43FF => paired(bits % 256, InstructionOpcode::Xor),
+            0x4400..=0x44FF => paired(bits % 256, InstructionOpcode::Shl),
+            0x4500..=0x45FF => paired(bits % 256, InstructionOpcode::Shr),
+            0x4700..=0x47FF => paired(bits % 256, InstructionOpcode::Bitset),
+            _ => InstructionOpcode::Undecodable,
+        },
     }
 }
 
 // General-purpose arithmetic.
-fn arithmetic(hi: u8, lo: u16) -> InstructionOpcode
-    requires { ⌜ (0x48 ≤ hi) × (hi < 0x50) ⌝ }
-    ensures { λ r. ⌜ r ≡ opcodeOf hi lo ⌝ }
+fn arithmetic(bits: u16) -> InstructionOpcode
+    requires { ⌜ (0x4800 ≤ bits) × (bits < 0x5000) ⌝ }
+    ensures { λ r. ⌜ r ≡ opcodeOf (bits / 256) (bits % 256) ⌝ }
 {
-    match hi {
-        0x48..=0x49 => match hi {
-            0x48 => unary(lo),
-            _ => paired(lo, InstructionOpcode::Add),
+    match bits {
+        0x4800..=0x49FF => match bits {
+            0x4800..=0x48FF => unary(bits % 256),
+            _ => paired(bits % 256, InstructionOpcode::Add),
         },
-        0x4A..=0x4B => match hi {
-            0x4A => paired(lo, InstructionOpcode::Sub),
-            _ => paired(lo, InstructionOpcode::Mul),
-        },
+        0x4A00..=0x4AFF => paired(bits % 256, InstructionOpcode::Sub),
+        0x4B00..=0x4BFF => paired(bits % 256, InstructionOpcode::Mul),
         _ => InstructionOpcode::Undecodable,
     }
 }
 
 // Comparison.
-fn comparison(hi: u8, lo: u16) -> InstructionOpcode
-    requires { ⌜ (0x50 ≤ hi) × (hi < 0x60) ⌝ }
-    ensures { λ r. ⌜ r ≡ opcodeOf hi lo ⌝ }
+fn comparison(bits: u16) -> InstructionOpcode
+    requires { ⌜ (0x5000 ≤ bits) × (bits < 0x6000) ⌝ }
+    ensures { λ r. ⌜ r ≡ opcodeOf (bits / 256) (bits % 256) ⌝ }
 {
-    match hi {
-        0x50..=0x51 => match hi {
-            0x50 => zero(lo),
-            _ => paired(lo, InstructionOpcode::Eq),
+    match bits {
+        0x5000..=0x51FF => match bits {
+            0x5100..=0x51FF => paired(bits % 256, InstructionOpcode::Eq),
+            0x5010..=0x5017 => InstructionOpcode::Eqz,
+            0x5000 => InstructionOpcode::Inv,
+            _ => InstructionOpcode::Undecodable,
         },
-        0x52..=0x53 => match hi {
-            0x52 => paired(lo, InstructionOpcode::Gt),
-            _ => paired(lo, InstructionOpcode::Gteq),
-        },
+        0x5200..=0x52FF => paired(bits % 256, InstructionOpcode::Gt),
+        0x5300..=0x53FF => paired(bits % 256, InstructionOpcode::Gteq),
         _ => InstructionOpcode::Undecodable,
     }
 }
 
 // Branching, and hlt.
-fn branching(hi: u8, lo: u16) -> InstructionOpcode
-    requires { ⌜ 0x60 ≤ hi ⌝ }
-    ensures { λ r. ⌜ r ≡ opcodeOf hi lo ⌝ }
+fn branching(bits: u16) -> InstructionOpcode
+    requires { ⌜ 0x6000 ≤ bits ⌝ }
+    ensures { λ r. ⌜ r ≡ opcodeOf (bits / 256) (bits % 256) ⌝ }
 {
-    match hi {
-        0x60..=0x61 => match hi {
-            0x60 => InstructionOpcode::Jmpoff,
+    match bits {
+        0x6000..=0x61FF => match bits {
+            0x6000..=0x60FF => InstructionOpcode::Jmpoff,
             _ => InstructionOpcode::Cjmpoff,
         },
-        0x62..=0x63 => match hi {
-            0x62 => calls(lo),
-            _ => single(lo, InstructionOpcode::Cjmp),
-        },
-        0xFF => alone(lo, 0xFF, InstructionOpcode::Hlt),
+        0x6210..=0x6217 => InstructionOpcode::Call,
+        0x6218 => InstructionOpcode::Ret,
+        0x6300..=0x6307 => InstructionOpcode::Cjmp,
+        0xFFFF => InstructionOpcode::Hlt,
         _ => InstructionOpcode::Undecodable,
     }
 }
 
-// One lower byte.
-fn alone(lo: u16, byte: u16, opcode: InstructionOpcode) -> InstructionOpcode
-    ensures { λ r. ⌜ r ≡ aloneOf byte opcode lo ⌝ }
+// A general register in the low four bits: 0rrr.
+fn register(bits: u16, opcode: InstructionOpcode) -> InstructionOpcode
+    ensures { λ r. ⌜ r ≡ registerOf opcode bits ⌝ }
 {
-    if lo == byte {
-        opcode
-    } else {
-        InstructionOpcode::Undecodable
+    match bits % 16 {
+        0x0..=0x7 => opcode,
+        _ => InstructionOpcode::Undecodable,
     }
 }
 
-// One register, 00000qqq.
-fn single(lo: u16, opcode: InstructionOpcode) -> InstructionOpcode
-    ensures { λ r. ⌜ r ≡ singleOf opcode lo ⌝ }
+// A general or a decimal register in the low four bits: 0rrr, 10dd.
+fn register_or_decimal(
+    bits: u16,
+    opcode: InstructionOpcode,
+    decimal: InstructionOpcode,
+) -> InstructionOpcode
+    ensures { λ r. ⌜ r ≡ registerOrDecimalOf opcode decimal bits ⌝ }
 {
-    match lo {
-        0x00..=0x07 => opcode,
+    match bits % 16 {
+        0x0..=0x7 => opcode,
+        0x8..=0xB => decimal,
         _ => InstructionOpcode::Undecodable,
     }
 }
@@ -242,95 +293,6 @@ fn paired(lo: u16, opcode: InstructionOpcode) -> InstructionOpcode
     }
 }
 
-// The upper byte 0x20: 0aaa0rrr, 0aaa10dd, 1aaa0rrr, 1aaa10dd.
-fn memory(lo: u16) -> InstructionOpcode
-    ensures { λ r. ⌜ r ≡ memoryOf lo ⌝ }
-{
-    match lo {
-        0x00..=0x7F => match lo % 16 {
-            0x0..=0x7 => InstructionOpcode::Read,
-            0x8..=0xB => InstructionOpcode::DRead,
-            _ => InstructionOpcode::Undecodable,
-        },
-        _ => match lo % 16 {
-            0x0..=0x7 => InstructionOpcode::Write,
-            0x8..=0xB => InstructionOpcode::DWrite,
-            _ => InstructionOpcode::Undecodable,
-        },
-    }
-}
-
-// The upper byte 0x21: 0sss0ddd, 00ss10dd, 10ss0ddd, 11dd0sss, 11011rrr.
-fn moves(lo: u16) -> InstructionOpcode
-    ensures { λ r. ⌜ r ≡ movesOf lo ⌝ }
-{
-    match lo {
-        0x00..=0x3F => match lo % 16 {
-            0x0..=0x7 => InstructionOpcode::Mov,
-            0x8..=0xB => InstructionOpcode::DMov,
-            _ => InstructionOpcode::Undecodable,
-        },
-        0x40..=0x7F => match lo % 16 {
-            0x0..=0x7 => InstructionOpcode::Mov,
-            _ => InstructionOpcode::Undecodable,
-        },
-        0x80..=0xBF => match lo % 16 {
-            0x0..=0x7 => InstructionOpcode::Movso,
-            _ => InstructionOpcode::Undecodable,
-        },
-        0xD8..=0xDF => InstructionOpcode::Spadd,
-        _ => match lo % 16 {
-            0x0..=0x7 => InstructionOpcode::Movsi,
-            _ => InstructionOpcode::Undecodable,
-        },
-    }
-}
-
-// The upper byte 0x22.
-fn pointer(lo: u16) -> InstructionOpcode
-    ensures { λ r. ⌜ r ≡ pointerOf lo ⌝ }
-{
-    match lo {
-        0xD0 => InstructionOpcode::Spinc,
-        0xD1 => InstructionOpcode::Spdec,
-        _ => InstructionOpcode::Undecodable,
-    }
-}
-
-// The upper byte 0x23.
-fn stack(lo: u16) -> InstructionOpcode
-    ensures { λ r. ⌜ r ≡ stackOf lo ⌝ }
-{
-    match lo {
-        0xD0..=0xD7 => InstructionOpcode::Push,
-        0xD8..=0xDF => InstructionOpcode::Pop,
-        _ => InstructionOpcode::Undecodable,
-    }
-}
-
-// The upper byte 0x30: 0rrriiii, 1rrriiii.
-fn slots(lo: u16) -> InstructionOpcode
-    ensures { λ r. ⌜ r ≡ slotsOf lo ⌝ }
-{
-    match lo {
-        0x00..=0x7F => InstructionOpcode::Spread,
-        _ => InstructionOpcode::Spwrite,
-    }
-}
-
-// The upper byte 0x41: 0xxx0rrr, 1xxx0rrr.
-fn ands(lo: u16) -> InstructionOpcode
-    ensures { λ r. ⌜ r ≡ andsOf lo ⌝ }
-{
-    match lo % 16 {
-        0x0..=0x7 => match lo {
-            0x00..=0x7F => InstructionOpcode::And,
-            _ => InstructionOpcode::Booland,
-        },
-        _ => InstructionOpcode::Undecodable,
-    }
-}
-
 // The upper byte 0x48: 00000rrr, 00010rrr, 00100rrr.
 fn unary(lo: u16) -> InstructionOpcode
     ensures { λ r. ⌜ r ≡ unaryOf lo ⌝ }
@@ -339,28 +301,6 @@ fn unary(lo: u16) -> InstructionOpcode
         0 => InstructionOpcode::Neg,
         2 => InstructionOpcode::Inc,
         4 => InstructionOpcode::Dec,
-        _ => InstructionOpcode::Undecodable,
-    }
-}
-
-// The upper byte 0x50.
-fn zero(lo: u16) -> InstructionOpcode
-    ensures { λ r. ⌜ r ≡ zeroOf lo ⌝ }
-{
-    match lo {
-        0x00 => InstructionOpcode::Inv,
-        0x10..=0x17 => InstructionOpcode::Eqz,
-        _ => InstructionOpcode::Undecodable,
-    }
-}
-
-// The upper byte 0x62.
-fn calls(lo: u16) -> InstructionOpcode
-    ensures { λ r. ⌜ r ≡ callsOf lo ⌝ }
-{
-    match lo {
-        0x10..=0x17 => InstructionOpcode::Call,
-        0x18 => InstructionOpcode::Ret,
         _ => InstructionOpcode::Undecodable,
     }
 }

@@ -5,9 +5,9 @@ use crate::reg::GPR;
 use crate::reg::SPR;
 use opcode::InstructionOpcode;
 ghost use mathlib.Core.Path.{_≡_};
-ghost use Prim.Native.Nat.{_<_};
+ghost use Prim.Native.Nat.{_<_, _%_};
 ghost use Rattle.instructions.specs.Encoding.{encodeOf, pairOf, slotOf, immediateOf};
-ghost use Rattle.instructions.specs.Decoding.{instructionOf, answerOf, decodeOf};
+ghost use Rattle.instructions.specs.Decoding.{operandsOf, answerOf, decodeOf};
 
 // What decoding a word answers.
 pub enum Decoded {
@@ -84,7 +84,8 @@ impl Instruction {
     pub fn decode(bits: u16) -> Decoded
         ensures { λ r. ⌜ answerOf r ≡ decodeOf bits ⌝ }
     {
-        with_operands(opcode::opcode((bits / 256) as u8, bits % 256), bits)
+        let hi = bits / 256;
+        with_operands(opcode::opcode(bits), hi, bits)
     }
 }
 
@@ -109,11 +110,11 @@ fn immediate(reg: GPR, imm: u8) -> u16
     reg.encode() * 256 + imm as u16
 }
 
-// The instruction with this opcode, with the operands that the word holds.
-fn with_operands(opcode: InstructionOpcode, bits: u16) -> Decoded
-    ensures { λ r. ⌜ answerOf r ≡ instructionOf opcode bits ⌝ }
+// The instruction with this opcode, with the operands that the word holds. `hi` is its upper byte: taken before the opcode is known, it lets
+// the compiler lead each opcode straight to what the instruction does.
+fn with_operands(opcode: InstructionOpcode, hi: u16, bits: u16) -> Decoded
+    ensures { λ r. ⌜ answerOf r ≡ operandsOf opcode bits hi (bits % 256) ⌝ }
 {
-    let hi = bits / 256;
     let lo = bits % 256;
     let p = GPR::from_low_bits(lo / 16);
     let q = GPR::from_low_bits(lo);
