@@ -6,7 +6,7 @@ use std::path::{Path, PathBuf};
 use std::process::{Command, Stdio};
 use std::time::Instant;
 
-use bench::{cpu_time, median, print_row};
+use bench::{children_cpu_time, cpu_time, median, print_row};
 use differential::programs::loops;
 use nilguseg::{Core, End};
 
@@ -119,38 +119,41 @@ fn expected_line(sheet: &[u32]) -> String {
     format!("{end} {} {}\n", run.steps, registers.join(" "))
 }
 
-/// Milliseconds from the start of the process until its line is read.
-fn timed_line(berth: &str, sheet: &[u32]) -> (f64, String) {
+/// Milliseconds from the start of the process until its line is read and it has ended: wall time and CPU time.
+fn timed_line(berth: &str, sheet: &[u32]) -> (f64, f64, String) {
     let input: Vec<u8> = sheet.iter().flat_map(|record| record.to_le_bytes()).collect();
+    let before = children_cpu_time();
     let start = Instant::now();
     let mut child = Command::new(berth).stdin(Stdio::piped()).stdout(Stdio::piped()).spawn().unwrap();
     child.stdin.take().unwrap().write_all(&input).unwrap();
     let output = child.wait_with_output().unwrap();
-    let time = start.elapsed().as_secs_f64() * 1e3;
-    (time, String::from_utf8(output.stdout).unwrap())
+    let wall = start.elapsed().as_secs_f64() * 1e3;
+    (wall, children_cpu_time() - before, String::from_utf8(output.stdout).unwrap())
 }
 
 /// The times of the example and of 1,000,000 steps of each loop, and what a step takes beyond the example.
 fn start_to_line(berth: &str, unchecked: &[f64]) {
-    println!("\nthe program berth from start to line, in milliseconds of wall time, median of {STARTS}");
-    let example = median_line(berth, &[0x1003, 0xFFFF]);
-    print_row("the example, 2 steps", [format!("{example:.2}")]);
+    println!("\nthe program berth from start to line, median of {STARTS}");
+    let (wall, example) = median_line(berth, &[0x1003, 0xFFFF]);
+    print_row("the example, 2 steps, milliseconds of wall time", [format!("{wall:.2}")]);
     print_row("", loops().map(|(name, _)| name));
     let times = loops().map(|(_, words)| median_line(berth, &words));
-    print_row("1,000,000 steps", times.map(|time| format!("{time:.2}")));
-    let steps = times.map(|time| time - example);
-    print_row("nanoseconds per step beyond the example", steps.map(|time| format!("{time:.2}")));
+    print_row("1,000,000 steps, milliseconds of wall time", times.map(|(wall, _)| format!("{wall:.2}")));
+    let steps = times.map(|(_, cpu)| cpu - example);
+    print_row("CPU nanoseconds per step beyond the example", steps.map(|time| format!("{time:.2}")));
     print_shares("share of published Rust, overflow checks off", &steps, unchecked);
 }
 
-/// The median time of berth on a list of words, in milliseconds.
-fn median_line(berth: &str, words: &[u16]) -> f64 {
+/// The median times of berth on a list of words, in milliseconds: wall time and CPU time.
+fn median_line(berth: &str, words: &[u16]) -> (f64, f64) {
     let sheet = sheet_of(words);
     let expected = expected_line(&sheet);
-    let times = (0..STARTS).map(|_| {
-        let (time, line) = timed_line(berth, &sheet);
-        assert_eq!(line, expected, "the line of {words:?}");
-        time
-    });
-    median(times.collect())
+    let (walls, cpus) = (0..STARTS)
+        .map(|_| {
+            let (wall, cpu, line) = timed_line(berth, &sheet);
+            assert_eq!(line, expected, "the line of {words:?}");
+            (wall, cpu)
+        })
+        .unzip();
+    (median(walls), median(cpus))
 }
