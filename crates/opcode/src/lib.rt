@@ -74,8 +74,11 @@ pub fn opcode(bits: u16) -> InstructionOpcode
 {
     match bits {
         0x0000..=0x3FFF => match bits {
-            0x0000..=0x20FF => loads(bits),
-            _ => transfers(bits),
+            0x0000..=0x21FF => match bits {
+                0x0000..=0x20FF => loads(bits),
+                _ => moves(bits),
+            },
+            _ => stack(bits),
         },
         0x4000..=0x4FFF => match bits {
             0x4000..=0x47FF => logic(bits),
@@ -111,22 +114,7 @@ fn loads(bits: u16) -> InstructionOpcode
     }
 }
 
-// Between registers, and the stack.
-fn transfers(bits: u16) -> InstructionOpcode
-    requires { ⌜ (0x2100 ≤ bits) × (bits < 0x4000) ⌝ }
-    ensures { λ r. ⌜ r ≡ opcodeOf (bits / 256) (bits % 256) ⌝ }
-{
-    match bits {
-        0x2100..=0x21FF => moves(bits),
-        0x2200..=0x23FF => match bits {
-            0x2200..=0x22FF => pointer(bits),
-            _ => stack(bits),
-        },
-        _ => slots(bits),
-    }
-}
-
-// 0sss0ddd, 00ss10dd, 10ss0ddd, 11dd0sss, 11011rrr.
+// Between registers: 0sss0ddd, 00ss10dd, 10ss0ddd, 11dd0sss, 11011rrr.
 fn moves(bits: u16) -> InstructionOpcode
     requires { ⌜ (0x2100 ≤ bits) × (bits < 0x2200) ⌝ }
     ensures { λ r. ⌜ r ≡ opcodeOf (bits / 256) (bits % 256) ⌝ }
@@ -144,6 +132,20 @@ fn moves(bits: u16) -> InstructionOpcode
     }
 }
 
+// The stack: its pointer, push and pop, and its slots.
+fn stack(bits: u16) -> InstructionOpcode
+    requires { ⌜ (0x2200 ≤ bits) × (bits < 0x4000) ⌝ }
+    ensures { λ r. ⌜ r ≡ opcodeOf (bits / 256) (bits % 256) ⌝ }
+{
+    match bits {
+        0x2200..=0x23FF => match bits {
+            0x2200..=0x22FF => pointer(bits),
+            _ => push_or_pop(bits),
+        },
+        _ => slots(bits),
+    }
+}
+
 // The stack pointer, by one.
 fn pointer(bits: u16) -> InstructionOpcode
     requires { ⌜ (0x2200 ≤ bits) × (bits < 0x2300) ⌝ }
@@ -157,7 +159,7 @@ fn pointer(bits: u16) -> InstructionOpcode
 }
 
 // 11010rrr, 11011rrr.
-fn stack(bits: u16) -> InstructionOpcode
+fn push_or_pop(bits: u16) -> InstructionOpcode
     requires { ⌜ (0x2300 ≤ bits) × (bits < 0x2400) ⌝ }
     ensures { λ r. ⌜ r ≡ opcodeOf (bits / 256) (bits % 256) ⌝ }
 {

@@ -7,10 +7,10 @@ use Rattle.opcode.proofs.opcode.Statement.{statement}
 use Rattle.opcode.proofs.opcode.Tie as tie
 
 arithmetic-requires : tie.Need-arithmetic-requires
-arithmetic-requires c κs = ⊎-elim (λ x. absurd (omega arith)) (λ x. (omega arith, omega arith)) (c .if4 .came)
+arithmetic-requires c κs = ⊎-elim (λ x. absurd (omega arith)) (λ x. (omega arith, omega arith)) (c .if5 .came)
 
 branching-requires : tie.Need-branching-requires
-branching-requires c κs = ⊎-elim (λ x. absurd (omega arith)) (λ x. omega arith) (c .if6 .came)
+branching-requires c κs = ⊎-elim (λ x. absurd (omega arith)) (λ x. omega arith) (c .if7 .came)
 
 pub opcode-spec : {M : Type 1} → statement M
 opcode-spec =
@@ -19,9 +19,11 @@ opcode-spec =
     (λ c κs. search needs)
     (λ c κs. search needs)
     (λ c κs. search needs)
+    (λ c κs. search needs)
     arithmetic-requires
     (λ c κs. search needs)
     branching-requires
+    (λ c. search needs)
     (λ c. search needs)
     (λ c. search needs)
     (λ c. search needs)

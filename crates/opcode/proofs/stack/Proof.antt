@@ -1,41 +1,24 @@
--- `stack` meets its contract: each range by its upper byte, and the tests of the lower byte.
+-- `stack` meets its contract: each range by the function that it calls.
 -- Assumes nothing.
-use mathlib.Core.Path.{_≡_}
-use Prim.Native.Nat.{_/_, _%_}
+use mathlib.Core.Logic.{⊎-elim}
 use native.Mathlib.Omega.{arith}
-use borrow.Author.Tests.{eq-eqb, ne-eqb}
+use borrow.Author.Needs.{needs}
 use Rattle.opcode.proofs.stack.Statement.{statement}
 use Rattle.opcode.proofs.stack.Tie as tie
 
-returns : tie.Need-returns
-returns c =
-    let w = c .before .before .args .bits in
-    let e : w / 256 ≡ 0x23 = omega arith in
-    simp (e, eq-eqb (w % 256 / 8) 0x1A (omega arith))
+push-or-pop-requires : tie.Need-push-or-pop-requires
+push-or-pop-requires c κs = ⊎-elim (λ x. absurd (omega arith)) (λ x. (omega arith, omega arith)) (c .if3 .came)
 
-returns-2 : tie.Need-returns-2
-returns-2 c =
-    let w = c .before .before .before .args .bits in
-    let e : w / 256 ≡ 0x23 = omega arith in
-    simp (e, ne-eqb (w % 256 / 8) 0x1A (omega arith), eq-eqb (w % 256 / 8) 0x1B (omega arith))
-
-returns-3 : tie.Need-returns-3
-returns-3 c =
-    let w = c .before .args .bits in
-    let e : w / 256 ≡ 0x23 = omega arith in
-    simp (e, ne-eqb (w % 256 / 8) 0x1A (omega arith), ne-eqb (w % 256 / 8) 0x1B (omega arith))
-
-returns-4 : tie.Need-returns-4
-returns-4 c =
-    let w = c .before .before .before .args .bits in
-    let e : w / 256 ≡ 0x23 = omega arith in
-    simp (e, ne-eqb (w % 256 / 8) 0x1A (omega arith), ne-eqb (w % 256 / 8) 0x1B (omega arith))
+slots-requires : tie.Need-slots-requires
+slots-requires c κs = ⊎-elim (λ x. absurd (omega arith)) (λ x. (omega arith, omega arith)) (c .if1 .came)
 
 pub stack-spec : {M : Type 1} → statement M
 stack-spec =
     tie.close
     (tie.spec
-    returns
-    returns-2
-    returns-3
-    returns-4)
+    (λ c κs. search needs)
+    push-or-pop-requires
+    slots-requires
+    (λ c. search needs)
+    (λ c. search needs)
+    (λ c. search needs))
