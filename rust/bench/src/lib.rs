@@ -1,6 +1,8 @@
-//! What both programs of the benchmark need.
+//! What both programs of the benchmark need: the clock, and the programs that are measured.
 
-use std::fmt::Display;
+use differential::programs::loops;
+use differential::work::works;
+use nilguseg::End;
 
 #[repr(C)]
 struct Timespec {
@@ -31,25 +33,46 @@ pub fn cpu_time() -> f64 {
     time.seconds as f64 * 1e9 + time.nanoseconds as f64
 }
 
-/// The CPU time, in milliseconds, of the processes that this one started and that have ended.
+/// The CPU time, in nanoseconds, of the processes that this one started and that have ended.
 pub fn children_cpu_time() -> f64 {
     let mut usage = Rusage { times: [[0; 2]; 2], rest: [0; 14] };
     // SAFETY: the pointer is that of a rusage.
     assert_eq!(unsafe { getrusage(RUSAGE_CHILDREN, &mut usage) }, 0);
-    usage.times.iter().map(|[seconds, microseconds]| *seconds as f64 * 1e3 + *microseconds as f64 / 1e3).sum()
+    usage.times.iter().map(|[seconds, microseconds]| *seconds as f64 * 1e9 + *microseconds as f64 * 1e3).sum()
 }
 
-/// The middle one of an odd number of measurements.
-pub fn median(mut of: Vec<f64>) -> f64 {
-    of.sort_by(f64::total_cmp);
-    of[of.len() / 2]
+/// A program with the end that its run must have.
+pub struct Program {
+    pub name: &'static str,
+    /// Nothing for an endless loop.
+    pub computes: &'static str,
+    pub words: Vec<u16>,
+    pub limit: u32,
+    pub end: End,
+    /// What it must leave in r0 and on.
+    pub result: Vec<u16>,
 }
 
-/// A row of the table: a name and five columns.
-pub fn print_row(name: &str, columns: impl IntoIterator<Item = impl Display>) {
-    print!("{name:<52}");
-    for column in columns {
-        print!(" {column:>11}");
-    }
-    println!();
+/// The limit that berth has.
+pub const BERTH_LIMIT: u32 = 1_000_000;
+
+/// The two tables: the endless loops, and the programs that do real work.
+pub fn tables() -> [Vec<Program>; 2] {
+    let endless = loops().map(|(name, words)| Program {
+        name,
+        computes: "",
+        words,
+        limit: 2 * BERTH_LIMIT,
+        end: End::Limit,
+        result: Vec::new(),
+    });
+    let ending = works().map(|work| Program {
+        name: work.name,
+        computes: work.computes,
+        words: work.words,
+        limit: BERTH_LIMIT,
+        end: End::Halted,
+        result: work.result,
+    });
+    [endless.into(), ending.into()]
 }

@@ -1,35 +1,87 @@
 //! usage: bench BERTH, the path of the program berth
-//! Prints the CPU time per step of the five loops, the time of berth from start to line, and the speed of sheets.
+//! Prints the CPU time per step of the programs of both tables, the speed of sheets, and the time of berth from start
+//! to line.
 
-use std::io::Write;
+mod berth;
+
+use std::fmt::Display;
 use std::path::{Path, PathBuf};
-use std::process::{Command, Stdio};
-use std::time::Instant;
+use std::process::Command;
 
-use bench::{children_cpu_time, cpu_time, median, print_row};
-use differential::programs::loops;
-use nilguseg::{Core, End};
+use bench::{cpu_time, tables, Program};
+use berth::Berth;
+use nilguseg::Core;
 
-const ROUNDS: usize = 5;
-const STEPS: u32 = 10_000_000;
-const STARTS: usize = 21;
+const ROUNDS: usize = 15;
 
-/// What is measured: its name, the cargo profile it is built in, and the machine.
+/// What is measured beside berth: its name, the cargo profile it is built in, and the machine.
 const MACHINES: [(&str, &str, &str); 3] = [
     ("published Rust, overflow checks off", "unchecked", "published"),
     ("published Rust, overflow checks on", "release", "published"),
-    ("this library", "release", "library"),
+    ("library", "release", "library"),
 ];
 
+/// The least and the median of the rounds.
+#[derive(Clone, Copy)]
+struct Times {
+    least: f64,
+    median: f64,
+}
+
+fn times(mut rounds: Vec<f64>) -> Times {
+    rounds.sort_by(f64::total_cmp);
+    Times { least: rounds[0], median: rounds[rounds.len() / 2] }
+}
+
 fn main() {
-    let berth = std::env::args().nth(1).expect("usage: bench BERTH");
-    let unchecked = loops_table();
-    sheets();
-    if Path::new(&berth).is_file() {
-        start_to_line(&berth, &unchecked);
-    } else {
-        println!("\nskipped: the program berth, which is not at {berth}");
+    let path = std::env::args().nth(1).expect("usage: bench BERTH");
+    let tables = tables();
+    let programs: Vec<&Program> = tables.iter().flatten().collect();
+    let mut berth = Path::new(&path).is_file().then(|| Berth::new(&path, &programs));
+
+    // Each machine takes its turn in each round, so that a neighbour's load falls on all alike.
+    let mut rounds = vec![vec![Vec::new(); programs.len()]; MACHINES.len()];
+    for _ in 0..ROUNDS {
+        let mut digests = Vec::new();
+        for (rounds, (_, profile, machine)) in rounds.iter_mut().zip(MACHINES) {
+            let (round, digest): (Vec<f64>, Vec<String>) = measured(profile, machine).into_iter().unzip();
+            rounds.iter_mut().zip(round).for_each(|(rounds, time)| rounds.push(time));
+            digests.push(digest);
+        }
+        assert!(digests.iter().all(|digest| *digest == digests[0]), "the machines leave different states");
+        berth.iter_mut().for_each(Berth::round);
     }
+
+    let mut rows: Vec<(&str, Vec<Times>)> = Vec::new();
+    for ((name, _, _), rounds) in MACHINES.iter().zip(rounds) {
+        rows.push((name, rounds.into_iter().map(times).collect()));
+    }
+    rows.extend(berth.iter().map(|berth| ("berth", berth.steps())));
+    println!("CPU nanoseconds per step; least and median of {ROUNDS} interleaved rounds; equal final states");
+    let mut first = 0;
+    for table in &tables {
+        print_table(table, &rows, first);
+        first += table.len();
+    }
+    sheets();
+    match berth {
+        Some(berth) => berth.print_start_to_line(),
+        None => println!("\nskipped: the program berth, which is not at {path}"),
+    }
+}
+
+/// One child's lines: for each program the time per step, and the digest.
+fn measured(profile: &str, machine: &str) -> Vec<(f64, String)> {
+    let path = measure(profile);
+    let output = Command::new(&path).arg(machine).output();
+    let output = output.unwrap_or_else(|error| panic!("{}: {error}", path.display()));
+    assert!(output.status.success(), "{}", String::from_utf8_lossy(&output.stderr));
+    let lines = String::from_utf8(output.stdout).unwrap();
+    let parse = |line: &str| {
+        let (time, digest) = line.split_once(' ').unwrap();
+        (time.parse().unwrap(), digest.to_string())
+    };
+    lines.lines().map(parse).collect()
 }
 
 /// The program measure of a profile; both stand beside this one.
@@ -38,48 +90,35 @@ fn measure(profile: &str) -> PathBuf {
     this.parent().unwrap().parent().unwrap().join(profile).join("measure")
 }
 
-/// One child's lines: for each loop the time per step, and the digest.
-fn measured(profile: &str, machine: &str) -> Vec<(f64, String)> {
-    let output = Command::new(measure(profile)).args([machine, &STEPS.to_string()]).output();
-    let output = output.unwrap_or_else(|error| panic!("{}: {error}", measure(profile).display()));
-    assert!(output.status.success(), "{}", String::from_utf8_lossy(&output.stderr));
-    let lines = String::from_utf8(output.stdout).unwrap();
-    let parse = |line: &str| {
-        let (time, digest) = line.split_once(' ').unwrap();
-        (time.parse::<f64>().unwrap() / STEPS as f64, digest.to_string())
-    };
-    lines.lines().map(parse).collect()
+/// The columns of one table, the first of which is column `first` of the rows; and the shares of the first row.
+fn print_table(table: &[Program], rows: &[(&str, Vec<Times>)], first: usize) {
+    println!();
+    print_row("", table.iter().map(|program| program.name));
+    let columns = first..first + table.len();
+    let cell = |times: &Times| format!("{:.2} {:5.2}", times.least, times.median);
+    for (name, times) in rows {
+        print_row(name, times[columns.clone()].iter().map(cell));
+    }
+    let published = &rows[0].1[columns.clone()];
+    for (name, times) in &rows[2..] {
+        let shares = times[columns.clone()].iter().zip(published).map(|(times, published)| Times {
+            least: times.least / published.least,
+            median: times.median / published.median,
+        });
+        print_row(&format!("{name}, share of the first row"), shares.map(|share| cell(&share)));
+    }
+    for program in table.iter().filter(|program| !program.computes.is_empty()) {
+        println!("{}: {}", program.name, program.computes);
+    }
 }
 
-/// Rounds in which each machine takes its turn, so that a neighbour's load falls on all alike. Returns the times
-/// of the published Rust with overflow checks off.
-fn loops_table() -> Vec<f64> {
-    let names = loops().map(|(name, _)| name);
-    let mut times = vec![vec![Vec::new(); names.len()]; MACHINES.len()];
-    for _ in 0..ROUNDS {
-        let mut digests = Vec::new();
-        for (times, (_, profile, machine)) in times.iter_mut().zip(MACHINES) {
-            let (round, digest): (Vec<f64>, Vec<String>) = measured(profile, machine).into_iter().unzip();
-            times.iter_mut().zip(round).for_each(|(times, time)| times.push(time));
-            digests.push(digest);
-        }
-        assert!(digests.iter().all(|digest| *digest == digests[0]), "the machines leave different states");
+/// A row of the table: a name and its columns.
+fn print_row(name: &str, columns: impl IntoIterator<Item = impl Display>) {
+    print!("{name:<36}");
+    for column in columns {
+        print!(" {column:>12}");
     }
-    println!("CPU nanoseconds per step; {STEPS} steps, median of {ROUNDS} interleaved rounds; equal final states");
-    print_row("", names);
-    let mut medians: Vec<Vec<f64>> = times.into_iter().map(|times| times.into_iter().map(median).collect()).collect();
-    for ((name, _, _), medians) in MACHINES.iter().zip(&medians) {
-        print_row(name, medians.iter().map(|time| format!("{time:.2}")));
-    }
-    for ((name, _, _), published) in MACHINES.iter().zip(&medians).take(2) {
-        print_shares(&format!("share of {name}"), &medians[2], published);
-    }
-    medians.swap_remove(0)
-}
-
-/// A row of what part of the times `of` the `times` are.
-fn print_shares(name: &str, times: &[f64], of: &[f64]) {
-    print_row(name, times.iter().zip(of).map(|(time, of)| format!("{:.2}", time / of)));
+    println!();
 }
 
 /// A full sheet: 65,536 words, none of them 0.
@@ -97,63 +136,7 @@ fn sheets() {
         writing.push(written - start);
         loading.push(end - written);
     }
-    let speed = |times| 65536.0 / median(times) * 1e3;
-    println!("\na sheet of 65,536 words, in millions of words per second of CPU time");
+    let speed = |rounds| 65536.0 / times(rounds).least * 1e3;
+    println!("\na sheet of 65,536 words, in millions of words per second of CPU time, the best of {ROUNDS}");
     println!("loading {:.1}, writing {:.1}", speed(loading), speed(writing));
-}
-
-/// The sheet of a list of words.
-fn sheet_of(words: &[u16]) -> Vec<u32> {
-    let records = words.iter().map(|word| 0x2000_0000 | *word as u32);
-    records.chain([0xF000_0000 | words.len() as u32]).collect()
-}
-
-/// The line that berth owes for a sheet that halts or reaches the limit.
-fn expected_line(sheet: &[u32]) -> String {
-    let (mut core, mut memory, mut marks) = (Core::new(), vec![0; 32768], vec![0; 32768]);
-    core.load_sheet(sheet, &mut memory).unwrap();
-    let run = core.run(&mut memory, &mut marks, 1_000_000);
-    let end = if run.end == End::Halted { "halted" } else { "limit" };
-    let registers = [core.ip, core.rp, core.sp, core.ef].into_iter().chain(core.r);
-    let registers: Vec<String> = registers.map(|register| register.to_string()).collect();
-    format!("{end} {} {}\n", run.steps, registers.join(" "))
-}
-
-/// Milliseconds from the start of the process until its line is read and it has ended: wall time and CPU time.
-fn timed_line(berth: &str, sheet: &[u32]) -> (f64, f64, String) {
-    let input: Vec<u8> = sheet.iter().flat_map(|record| record.to_le_bytes()).collect();
-    let before = children_cpu_time();
-    let start = Instant::now();
-    let mut child = Command::new(berth).stdin(Stdio::piped()).stdout(Stdio::piped()).spawn().unwrap();
-    child.stdin.take().unwrap().write_all(&input).unwrap();
-    let output = child.wait_with_output().unwrap();
-    let wall = start.elapsed().as_secs_f64() * 1e3;
-    (wall, children_cpu_time() - before, String::from_utf8(output.stdout).unwrap())
-}
-
-/// The times of the example and of 1,000,000 steps of each loop, and what a step takes beyond the example.
-fn start_to_line(berth: &str, unchecked: &[f64]) {
-    println!("\nthe program berth from start to line, median of {STARTS}");
-    let (wall, example) = median_line(berth, &[0x1003, 0xFFFF]);
-    print_row("the example, 2 steps, milliseconds of wall time", [format!("{wall:.2}")]);
-    print_row("", loops().map(|(name, _)| name));
-    let times = loops().map(|(_, words)| median_line(berth, &words));
-    print_row("1,000,000 steps, milliseconds of wall time", times.map(|(wall, _)| format!("{wall:.2}")));
-    let steps = times.map(|(_, cpu)| cpu - example);
-    print_row("CPU nanoseconds per step beyond the example", steps.map(|time| format!("{time:.2}")));
-    print_shares("share of published Rust, overflow checks off", &steps, unchecked);
-}
-
-/// The median times of berth on a list of words, in milliseconds: wall time and CPU time.
-fn median_line(berth: &str, words: &[u16]) -> (f64, f64) {
-    let sheet = sheet_of(words);
-    let expected = expected_line(&sheet);
-    let (walls, cpus) = (0..STARTS)
-        .map(|_| {
-            let (wall, cpu, line) = timed_line(berth, &sheet);
-            assert_eq!(line, expected, "the line of {words:?}");
-            (wall, cpu)
-        })
-        .unzip();
-    (median(walls), median(cpus))
 }

@@ -13,6 +13,7 @@ mod sheets;
 pub mod states;
 mod steps;
 mod words;
+pub mod work;
 
 use machine::Machine;
 use report::Report;
@@ -27,21 +28,21 @@ pub struct Effort {
     pub lockstep: u64,
     /// Steps of runs with limits.
     pub runs: u64,
-    /// Steps of each of the five endless loops.
-    pub endless: u32,
+    /// Steps of each program of the benchmark, at most.
+    pub measured: u32,
     /// Sheets loaded and written.
     pub sheets: usize,
 }
 
 pub const FULL: Effort =
-    Effort { states: 60, stride: 1, lockstep: 40_000_000, runs: 20_000_000, endless: 1_000_000, sheets: 400_000 };
+    Effort { states: 60, stride: 1, lockstep: 40_000_000, runs: 20_000_000, measured: 1_000_000, sheets: 400_000 };
 
 pub const SHORT: Effort =
-    Effort { states: 6, stride: 16, lockstep: 2_000_000, runs: 2_000_000, endless: 100_000, sheets: 40_000 };
+    Effort { states: 6, stride: 16, lockstep: 2_000_000, runs: 2_000_000, measured: 100_000, sheets: 40_000 };
 
 /// Enough to find a wrong machine.
 pub const CONTROL: Effort =
-    Effort { states: 4, stride: 64, lockstep: 300_000, runs: 300_000, endless: 10_000, sheets: 10_000 };
+    Effort { states: 4, stride: 64, lockstep: 300_000, runs: 300_000, measured: 10_000, sheets: 10_000 };
 
 type Part = fn(&dyn Machine, &Effort, &mut Report);
 
@@ -50,7 +51,7 @@ const PARTS: [Part; 10] = [
     |machine, _, report| steps::every_edge(machine, report),
     |machine, effort, report| steps::every_word(machine, effort.states, report),
     |machine, effort, report| steps::every_value(machine, effort.stride, report),
-    |machine, effort, report| runs::endless(machine, effort.endless, report),
+    |machine, effort, report| runs::measured(machine, effort.measured, report),
     |machine, effort, report| runs::limits(machine, effort.runs, report),
     |machine, effort, report| runs::lockstep(machine, effort.lockstep, report),
     |machine, _, report| sheets::refusals(machine, report),

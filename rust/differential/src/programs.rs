@@ -5,7 +5,7 @@ use crate::states::word;
 use nilguseg::kind::*;
 
 /// Putl and puth that set a register.
-fn set(register: u8, value: u16) -> [u16; 2] {
+pub(crate) fn set(register: u8, value: u16) -> [u16; 2] {
     let [high, low] = value.to_be_bytes();
     [word(PUTL, register, low), word(PUTH, register, high)]
 }

@@ -1,15 +1,15 @@
-//! usage: measure published|library STEPS
-//! Runs the five loops, and prints for each the CPU time in nanoseconds and a digest of what the run left.
+//! usage: measure published|library
+//! Runs the programs of both tables, and prints for each the CPU nanoseconds per step and a digest of what the run left.
 //! Built twice: with and without overflow checks, which are those of the published Rust.
 
 use std::cell::Cell;
 use std::hash::{DefaultHasher, Hash, Hasher};
 use std::hint::black_box;
 
-use bench::cpu_time;
+use bench::{cpu_time, tables};
 use delta_null_core_emulator::core::Core as PublishedCore;
 use delta_null_core_emulator::memory::{Memory, MemoryError};
-use differential::programs::{full_memory, loops};
+use differential::programs::full_memory;
 use nilguseg::{Core, End, Run};
 
 /// A memory that keeps the marks, as the library does.
@@ -37,51 +37,53 @@ impl Memory for Marked {
 /// What a run leaves, and how long it took.
 struct Done {
     time: f64,
+    run: Run,
     core: Core,
     memory: Vec<u16>,
     marks: Vec<u8>,
 }
 
-fn published(memory: Vec<u16>, steps: u32) -> Done {
+fn published(memory: Vec<u16>, limit: u32) -> Done {
     let marks = vec![Cell::new(0); memory.len()];
     let mut core = PublishedCore::new(Marked { words: memory, marks });
+    let mut run = Run { end: End::Limit, steps: 0 };
     let start = cpu_time();
-    for _ in 0..black_box(steps) {
+    for _ in 0..black_box(limit) {
+        core.step().expect("no program here stops");
+        run.steps += 1;
         if core.is_halted() {
+            run.end = End::Halted;
             break;
         }
-        core.step().expect("the loops never stop");
     }
     let time = cpu_time() - start;
     let registers = Core { r: core.gprs, ip: core.ip, rp: core.rp, sp: core.sp, ef: core.ef };
     let marks = core.memory.marks.iter().map(Cell::get).collect();
-    Done { time, core: registers, memory: core.memory.words, marks }
+    Done { time, run, core: registers, memory: core.memory.words, marks }
 }
 
-fn library(mut memory: Vec<u16>, steps: u32) -> Done {
+fn library(mut memory: Vec<u16>, limit: u32) -> Done {
     let mut marks = vec![0; memory.len()];
     let mut core = Core::new();
     let start = cpu_time();
-    let run = core.run(&mut memory, &mut marks, black_box(steps));
+    let run = core.run(&mut memory, &mut marks, black_box(limit));
     let time = cpu_time() - start;
-    assert_eq!(run, Run { end: End::Limit, steps });
-    Done { time, core, memory, marks }
+    Done { time, run, core, memory, marks }
 }
 
 fn main() {
-    let arguments: Vec<String> = std::env::args().skip(1).collect();
-    let [which, steps] = &arguments[..] else { panic!("usage: measure published|library STEPS") };
-    let steps = steps.parse().expect("a number of steps");
-    for (_, words) in loops() {
-        let memory = full_memory(&words);
-        let done = match which.as_str() {
-            "published" => published(memory, steps),
-            "library" => library(memory, steps),
-            other => panic!("unknown machine {other}"),
-        };
+    let machine = match std::env::args().nth(1).as_deref() {
+        Some("published") => published,
+        Some("library") => library,
+        _ => panic!("usage: measure published|library"),
+    };
+    for program in tables().into_iter().flatten() {
+        let done = machine(full_memory(&program.words), program.limit);
+        assert_eq!(done.run.end, program.end, "the end of {}", program.name);
+        assert_eq!(done.core.r[..program.result.len()], program.result, "the result of {}", program.name);
         let mut digest = DefaultHasher::new();
         (done.core.r, done.core.ip, done.core.rp, done.core.sp, done.core.ef).hash(&mut digest);
-        (done.memory, done.marks).hash(&mut digest);
-        println!("{} {}", done.time, digest.finish());
+        (done.run.steps, done.memory, done.marks).hash(&mut digest);
+        println!("{} {}", done.time / done.run.steps as f64, digest.finish());
     }
 }
