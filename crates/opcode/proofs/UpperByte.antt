@@ -9,7 +9,12 @@ use lib.Dec.{T, ltb}
 use borrow.Author.Tests.{lt-ltb, eq-eqb, ne-eqb}
 use Rattle.opcode.specs.Choice.{if_then_else_}
 use Rattle.opcode.specs.Opcode.{opcodeOf}
+use Rattle.opcode.specs.declared.InstructionOpcode.{InstructionOpcode}
 use Rattle.opcode.specs.declared.InstructionOpcode.the-variants.{Putl, Puth, Undecodable}
+
+-- what the row of the upper byte k answers
+pub row : (k hi lo : ℕ) {r : InstructionOpcode} → hi ≡ k → r ≡ opcodeOf k lo → r ≡ opcodeOf hi lo
+row k hi lo e p = rw e p
 
 module _ (hi lo : ℕ) where
   pub is-putl : 0x10 ≤ hi → hi < 0x18 → Putl ≡ opcodeOf hi lo

@@ -20,10 +20,10 @@ singleOf k lo = only (ltb lo 8) k
 
 -- a general register in the low four bits, 0rrr; or a decimal one, 10dd
 abbrev pub registerOf : InstructionOpcode → ℕ → InstructionOpcode
-registerOf k w = only (ltb (w % 16) 8) k
+registerOf k lo = only (ltb (lo % 16) 8) k
 
 abbrev pub registerOrDecimalOf : InstructionOpcode → InstructionOpcode → ℕ → InstructionOpcode
-registerOrDecimalOf k d w = if ltb (w % 16) 8 then k else only (ltb (w % 16) 12) d
+registerOrDecimalOf k d lo = if ltb (lo % 16) 8 then k else only (ltb (lo % 16) 12) d
 
 -- registers at p and q: 0ppp0qqq
 abbrev pub pairedOf : InstructionOpcode → ℕ → InstructionOpcode

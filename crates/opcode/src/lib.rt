@@ -1,7 +1,7 @@
-// The opcode of a word, by ranges of words: the first half of decoding.
+// The opcode of a word, by ranges of its upper byte and then of its lower byte: the first half of decoding.
 ghost use mathlib.Core.Path.{_≡_};
-ghost use Prim.Native.Nat.{_/_, _%_, _<_, _≤_};
-ghost use Rattle.opcode.specs.Opcode.{registerOf, registerOrDecimalOf, pairedOf, unaryOf, opcodeOf};
+ghost use Prim.Native.Nat.{_<_, _≤_};
+ghost use Rattle.opcode.specs.Opcode.{singleOf, registerOf, registerOrDecimalOf, pairedOf, memoryOf, movesOf, pointerOf, stackOf, slotsOf, andsOf, unaryOf, zeroOf, callsOf, opcodeOf};
 
 // The kind of an instruction, or that a word is undecodable. One flat enum, so that it takes one byte.
 pub enum InstructionOpcode {
@@ -67,242 +67,275 @@ pub enum InstructionOpcode {
     Ret,
 }
 
-// The opcode, by ranges of the word. They are told apart by comparisons that halve what is left: processors predict these better than the
-// jump through a table that single values of the upper byte become.
-pub fn opcode(bits: u16) -> InstructionOpcode
-    ensures { λ r. ⌜ r ≡ opcodeOf (bits / 256) (bits % 256) ⌝ }
+// The opcode of the word with the upper byte hi and the lower byte lo. Ranges of the upper byte are halved, since a match on many single
+// values becomes a jump through a table, which costs more in a long irregular program (docs/PERFORMANCE.md).
+pub fn opcode(hi: u8, lo: u8) -> InstructionOpcode
+    ensures { λ r. ⌜ r ≡ opcodeOf hi lo ⌝ }
 {
-    match bits {
-        0x0000..=0x3FFF => match bits {
-            0x0000..=0x21FF => match bits {
-                0x0000..=0x20FF => loads(bits),
-                _ => moves(bits),
+    match hi {
+        0x00..=0x3F => match hi {
+            0x00..=0x21 => match hi {
+                0x00..=0x1F => nop_or_immediate(hi, lo),
+                0x20 => memory(lo),
+                _ => moves(lo),
             },
-            _ => stack(bits),
+            _ => stack(hi, lo),
         },
-        0x4000..=0x4FFF => match bits {
-            0x4000..=0x47FF => logic(bits),
-            _ => arithmetic(bits),
+        0x40..=0x4F => match hi {
+            0x40..=0x47 => logic(hi, lo),
+            _ => arithmetic(hi, lo),
         },
-        _ => match bits {
-            0x5000..=0x5FFF => comparison(bits),
-            _ => branching(bits),
+        _ => match hi {
+            0x50..=0x5F => comparison(hi, lo),
+            _ => branching_or_hlt(hi, lo),
         },
     }
 }
 
-// Immediate loads, and memory at an address in a register.
-fn loads(bits: u16) -> InstructionOpcode
-    requires { ⌜ bits < 0x2100 ⌝ }
-    ensures { λ r. ⌜ r ≡ opcodeOf (bits / 256) (bits % 256) ⌝ }
+// Upper bytes 0x00 to 0x1F: nop, putl, puth.
+fn nop_or_immediate(hi: u8, lo: u8) -> InstructionOpcode
+    requires { ⌜ hi < 0x20 ⌝ }
+    ensures { λ r. ⌜ r ≡ opcodeOf hi lo ⌝ }
 {
-    match bits {
-        0x0000..=0x1FFF => match bits {
-            0x1000..=0x17FF => InstructionOpcode::Putl,
-            0x1800..=0x1FFF => InstructionOpcode::Puth,
-            0x0000 => InstructionOpcode::Nop,
+    match hi {
+        0x00 => match lo {
+            0x00 => InstructionOpcode::Nop,
             _ => InstructionOpcode::Undecodable,
         },
-        _ => match bits {
-            0x2000..=0x207F => register_or_decimal(
-                bits,
-                InstructionOpcode::Read,
-                InstructionOpcode::DRead,
-            ),
-            _ => register_or_decimal(bits, InstructionOpcode::Write, InstructionOpcode::DWrite),
-        },
-    }
-}
-
-// Between registers: 0sss0ddd, 00ss10dd, 10ss0ddd, 11dd0sss, 11011rrr.
-fn moves(bits: u16) -> InstructionOpcode
-    requires { ⌜ (0x2100 ≤ bits) × (bits < 0x2200) ⌝ }
-    ensures { λ r. ⌜ r ≡ opcodeOf (bits / 256) (bits % 256) ⌝ }
-{
-    match bits {
-        0x2100..=0x213F => register_or_decimal(
-            bits,
-            InstructionOpcode::Mov,
-            InstructionOpcode::DMov,
-        ),
-        0x2140..=0x217F => register(bits, InstructionOpcode::Mov),
-        0x2180..=0x21BF => register(bits, InstructionOpcode::Movso),
-        0x21D8..=0x21DF => InstructionOpcode::Spadd,
-        _ => register(bits, InstructionOpcode::Movsi),
-    }
-}
-
-// The stack: its pointer, push and pop, and its slots.
-fn stack(bits: u16) -> InstructionOpcode
-    requires { ⌜ (0x2200 ≤ bits) × (bits < 0x4000) ⌝ }
-    ensures { λ r. ⌜ r ≡ opcodeOf (bits / 256) (bits % 256) ⌝ }
-{
-    match bits {
-        0x2200..=0x23FF => match bits {
-            0x2200..=0x22FF => pointer(bits),
-            _ => push_or_pop(bits),
-        },
-        _ => slots(bits),
-    }
-}
-
-// The stack pointer, by one.
-fn pointer(bits: u16) -> InstructionOpcode
-    requires { ⌜ (0x2200 ≤ bits) × (bits < 0x2300) ⌝ }
-    ensures { λ r. ⌜ r ≡ opcodeOf (bits / 256) (bits % 256) ⌝ }
-{
-    match bits {
-        0x22D0 => InstructionOpcode::Spinc,
-        0x22D1 => InstructionOpcode::Spdec,
+        0x10..=0x17 => InstructionOpcode::Putl,
+        0x18..=0x1F => InstructionOpcode::Puth,
         _ => InstructionOpcode::Undecodable,
     }
 }
 
-// 11010rrr, 11011rrr.
-fn push_or_pop(bits: u16) -> InstructionOpcode
-    requires { ⌜ (0x2300 ≤ bits) × (bits < 0x2400) ⌝ }
-    ensures { λ r. ⌜ r ≡ opcodeOf (bits / 256) (bits % 256) ⌝ }
+// Upper byte 0x20: read and dread, write and dwrite.
+fn memory(lo: u8) -> InstructionOpcode
+    ensures { λ r. ⌜ r ≡ memoryOf lo ⌝ }
 {
-    match bits {
-        0x23D0..=0x23D7 => InstructionOpcode::Push,
-        0x23D8..=0x23DF => InstructionOpcode::Pop,
-        _ => InstructionOpcode::Undecodable,
+    match lo {
+        0x00..=0x7F => register_or_decimal(lo, InstructionOpcode::Read, InstructionOpcode::DRead),
+        _ => register_or_decimal(lo, InstructionOpcode::Write, InstructionOpcode::DWrite),
     }
 }
 
-// Memory at an offset from the stack pointer: 0rrriiii, 1rrriiii.
-fn slots(bits: u16) -> InstructionOpcode
-    requires { ⌜ (0x2400 ≤ bits) × (bits < 0x4000) ⌝ }
-    ensures { λ r. ⌜ r ≡ opcodeOf (bits / 256) (bits % 256) ⌝ }
+// Upper byte 0x21: mov, dmov, movso, movsi, spadd.
+fn moves(lo: u8) -> InstructionOpcode
+    ensures { λ r. ⌜ r ≡ movesOf lo ⌝ }
 {
-    match bits {
-        0x3000..=0x307F => InstructionOpcode::Spread,
-        0x3080..=0x30FF => InstructionOpcode::Spwrite,
-        _ => InstructionOpcode::Undecodable,
+    match lo {
+        0x00..=0x3F => register_or_decimal(lo, InstructionOpcode::Mov, InstructionOpcode::DMov),
+        0x40..=0x7F => register(lo, InstructionOpcode::Mov),
+        0x80..=0xBF => register(lo, InstructionOpcode::Movso),
+        0xD8..=0xDF => InstructionOpcode::Spadd,
+        _ => register(lo, InstructionOpcode::Movsi),
     }
 }
 
-// Bit manipulation.
-fn logic(bits: u16) -> InstructionOpcode
-    requires { ⌜ (0x4000 ≤ bits) × (bits < 0x4800) ⌝ }
-    ensures { λ r. ⌜ r ≡ opcodeOf (bits / 256) (bits % 256) ⌝ }
+// Upper bytes 0x22 to 0x3F: spinc and spdec, push and pop, spread and spwrite.
+fn stack(hi: u8, lo: u8) -> InstructionOpcode
+    requires { ⌜ (0x22 ≤ hi) × (hi < 0x40) ⌝ }
+    ensures { λ r. ⌜ r ≡ opcodeOf hi lo ⌝ }
 {
-    match bits {
-        0x4000..=0x42FF => match bits {
-            0x4000..=0x4007 => InstructionOpcode::Not,
-            0x4100..=0x417F => register(bits, InstructionOpcode::And),
-            0x4180..=0x41FF => register(bits, InstructionOpcode::Booland),
-            0x4200..=0x42FF => paired(bits % 256, InstructionOpcode::Or),
-            _ => InstructionOpcode::Undecodable,
+    match hi {
+        0x22..=0x23 => match hi {
+            0x22 => pointer(lo),
+            _ => push_or_pop(lo),
         },
-        _ => match bits {
-            0x4300..=0x43FF => paired(bits % 256, InstructionOpcode::Xor),
-            0x4400..=0x44FF => paired(bits % 256, InstructionOpcode::Shl),
-            0x4500..=0x45FF => paired(bits % 256, InstructionOpcode::Shr),
-            0x4700..=0x47FF => paired(bits % 256, InstructionOpcode::Bitset),
+        0x30 => slots(lo),
+        _ => InstructionOpcode::Undecodable,
+    }
+}
+
+// Upper byte 0x22: spinc, spdec.
+fn pointer(lo: u8) -> InstructionOpcode
+    ensures { λ r. ⌜ r ≡ pointerOf lo ⌝ }
+{
+    match lo {
+        0xD0 => InstructionOpcode::Spinc,
+        0xD1 => InstructionOpcode::Spdec,
+        _ => InstructionOpcode::Undecodable,
+    }
+}
+
+// Upper byte 0x23: push, pop.
+fn push_or_pop(lo: u8) -> InstructionOpcode
+    ensures { λ r. ⌜ r ≡ stackOf lo ⌝ }
+{
+    match lo {
+        0xD0..=0xD7 => InstructionOpcode::Push,
+        0xD8..=0xDF => InstructionOpcode::Pop,
+        _ => InstructionOpcode::Undecodable,
+    }
+}
+
+// Upper byte 0x30: spread, spwrite.
+fn slots(lo: u8) -> InstructionOpcode
+    ensures { λ r. ⌜ r ≡ slotsOf lo ⌝ }
+{
+    match lo {
+        0x00..=0x7F => InstructionOpcode::Spread,
+        _ => InstructionOpcode::Spwrite,
+    }
+}
+
+// Upper bytes 0x40 to 0x47, bit manipulation: not, and, booland, or, xor, shl, shr, bitset.
+fn logic(hi: u8, lo: u8) -> InstructionOpcode
+    requires { ⌜ (0x40 ≤ hi) × (hi < 0x48) ⌝ }
+    ensures { λ r. ⌜ r ≡ opcodeOf hi lo ⌝ }
+{
+    match hi {
+        0x40..=0x42 => match hi {
+            0x40 => single(lo, InstructionOpcode::Not),
+            0x41 => ands(lo),
+            _ => paired(lo, InstructionOpcode::Or),
+        },
+        _ => match hi {
+            0x43 => paired(lo, InstructionOpcode::Xor),
+            0x44 => paired(lo, InstructionOpcode::Shl),
+            0x45 => paired(lo, InstructionOpcode::Shr),
+            0x47 => paired(lo, InstructionOpcode::Bitset),
             _ => InstructionOpcode::Undecodable,
         },
     }
 }
 
-// General-purpose arithmetic.
-fn arithmetic(bits: u16) -> InstructionOpcode
-    requires { ⌜ (0x4800 ≤ bits) × (bits < 0x5000) ⌝ }
-    ensures { λ r. ⌜ r ≡ opcodeOf (bits / 256) (bits % 256) ⌝ }
+// Upper byte 0x41: and, booland.
+fn ands(lo: u8) -> InstructionOpcode
+    ensures { λ r. ⌜ r ≡ andsOf lo ⌝ }
 {
-    match bits {
-        0x4800..=0x49FF => match bits {
-            0x4800..=0x48FF => unary(bits % 256),
-            _ => paired(bits % 256, InstructionOpcode::Add),
+    match lo {
+        0x00..=0x7F => register(lo, InstructionOpcode::And),
+        _ => register(lo, InstructionOpcode::Booland),
+    }
+}
+
+// Upper bytes 0x48 to 0x4F, general-purpose arithmetic: neg, inc, dec, add, sub, mul.
+fn arithmetic(hi: u8, lo: u8) -> InstructionOpcode
+    requires { ⌜ (0x48 ≤ hi) × (hi < 0x50) ⌝ }
+    ensures { λ r. ⌜ r ≡ opcodeOf hi lo ⌝ }
+{
+    match hi {
+        0x48..=0x49 => match hi {
+            0x48 => unary(lo),
+            _ => paired(lo, InstructionOpcode::Add),
         },
-        0x4A00..=0x4AFF => paired(bits % 256, InstructionOpcode::Sub),
-        0x4B00..=0x4BFF => paired(bits % 256, InstructionOpcode::Mul),
+        0x4A => paired(lo, InstructionOpcode::Sub),
+        0x4B => paired(lo, InstructionOpcode::Mul),
         _ => InstructionOpcode::Undecodable,
     }
 }
 
-// Comparison.
-fn comparison(bits: u16) -> InstructionOpcode
-    requires { ⌜ (0x5000 ≤ bits) × (bits < 0x6000) ⌝ }
-    ensures { λ r. ⌜ r ≡ opcodeOf (bits / 256) (bits % 256) ⌝ }
+// Upper byte 0x48: neg, inc, dec.
+fn unary(lo: u8) -> InstructionOpcode
+    ensures { λ r. ⌜ r ≡ unaryOf lo ⌝ }
 {
-    match bits {
-        0x5000..=0x51FF => match bits {
-            0x5100..=0x51FF => paired(bits % 256, InstructionOpcode::Eq),
-            0x5010..=0x5017 => InstructionOpcode::Eqz,
-            0x5000 => InstructionOpcode::Inv,
-            _ => InstructionOpcode::Undecodable,
-        },
-        0x5200..=0x52FF => paired(bits % 256, InstructionOpcode::Gt),
-        0x5300..=0x53FF => paired(bits % 256, InstructionOpcode::Gteq),
+    match lo {
+        0x00..=0x07 => InstructionOpcode::Neg,
+        0x10..=0x17 => InstructionOpcode::Inc,
+        0x20..=0x27 => InstructionOpcode::Dec,
         _ => InstructionOpcode::Undecodable,
     }
 }
 
-// Branching, and hlt.
-fn branching(bits: u16) -> InstructionOpcode
-    requires { ⌜ 0x6000 ≤ bits ⌝ }
-    ensures { λ r. ⌜ r ≡ opcodeOf (bits / 256) (bits % 256) ⌝ }
+// Upper bytes 0x50 to 0x5F, comparison: inv, eqz, eq, gt, gteq.
+fn comparison(hi: u8, lo: u8) -> InstructionOpcode
+    requires { ⌜ (0x50 ≤ hi) × (hi < 0x60) ⌝ }
+    ensures { λ r. ⌜ r ≡ opcodeOf hi lo ⌝ }
 {
-    match bits {
-        0x6000..=0x61FF => match bits {
-            0x6000..=0x60FF => InstructionOpcode::Jmpoff,
+    match hi {
+        0x50..=0x51 => match hi {
+            0x50 => zero(lo),
+            _ => paired(lo, InstructionOpcode::Eq),
+        },
+        0x52 => paired(lo, InstructionOpcode::Gt),
+        0x53 => paired(lo, InstructionOpcode::Gteq),
+        _ => InstructionOpcode::Undecodable,
+    }
+}
+
+// Upper byte 0x50: inv, eqz.
+fn zero(lo: u8) -> InstructionOpcode
+    ensures { λ r. ⌜ r ≡ zeroOf lo ⌝ }
+{
+    match lo {
+        0x00 => InstructionOpcode::Inv,
+        0x10..=0x17 => InstructionOpcode::Eqz,
+        _ => InstructionOpcode::Undecodable,
+    }
+}
+
+// Upper bytes from 0x60 on, branching and hlt: jmpoff, cjmpoff, call, ret, cjmp, hlt.
+fn branching_or_hlt(hi: u8, lo: u8) -> InstructionOpcode
+    requires { ⌜ 0x60 ≤ hi ⌝ }
+    ensures { λ r. ⌜ r ≡ opcodeOf hi lo ⌝ }
+{
+    match hi {
+        0x60..=0x61 => match hi {
+            0x60 => InstructionOpcode::Jmpoff,
             _ => InstructionOpcode::Cjmpoff,
         },
-        0x6210..=0x6217 => InstructionOpcode::Call,
-        0x6218 => InstructionOpcode::Ret,
-        0x6300..=0x6307 => InstructionOpcode::Cjmp,
-        0xFFFF => InstructionOpcode::Hlt,
+        0x62 => calls(lo),
+        0x63 => single(lo, InstructionOpcode::Cjmp),
+        0xFF => match lo {
+            0xFF => InstructionOpcode::Hlt,
+            _ => InstructionOpcode::Undecodable,
+        },
         _ => InstructionOpcode::Undecodable,
     }
 }
 
-// A general register in the low four bits: 0rrr.
-fn register(bits: u16, opcode: InstructionOpcode) -> InstructionOpcode
-    ensures { λ r. ⌜ r ≡ registerOf opcode bits ⌝ }
+// Upper byte 0x62: call, ret.
+fn calls(lo: u8) -> InstructionOpcode
+    ensures { λ r. ⌜ r ≡ callsOf lo ⌝ }
 {
-    match bits % 16 {
-        0x0..=0x7 => opcode,
+    match lo {
+        0x10..=0x17 => InstructionOpcode::Call,
+        0x18 => InstructionOpcode::Ret,
         _ => InstructionOpcode::Undecodable,
     }
 }
 
-// A general or a decimal register in the low four bits: 0rrr, 10dd.
-fn register_or_decimal(
-    bits: u16,
-    opcode: InstructionOpcode,
-    decimal: InstructionOpcode,
-) -> InstructionOpcode
-    ensures { λ r. ⌜ r ≡ registerOrDecimalOf opcode decimal bits ⌝ }
+// A general register at q, and nothing else: 00000qqq.
+fn single(lo: u8, opcode: InstructionOpcode) -> InstructionOpcode
+    ensures { λ r. ⌜ r ≡ singleOf opcode lo ⌝ }
 {
-    match bits % 16 {
-        0x0..=0x7 => opcode,
-        0x8..=0xB => decimal,
+    match lo {
+        0x00..=0x07 => opcode,
         _ => InstructionOpcode::Undecodable,
     }
 }
 
-// Two registers, 0ppp0qqq.
-fn paired(lo: u16, opcode: InstructionOpcode) -> InstructionOpcode
+// General registers at p and q: 0ppp0qqq.
+fn paired(lo: u8, opcode: InstructionOpcode) -> InstructionOpcode
     ensures { λ r. ⌜ r ≡ pairedOf opcode lo ⌝ }
 {
     match lo {
-        0x00..=0x7F => match lo % 16 {
-            0x0..=0x7 => opcode,
-            _ => InstructionOpcode::Undecodable,
-        },
+        0x00..=0x7F => register(lo, opcode),
         _ => InstructionOpcode::Undecodable,
     }
 }
 
-// The upper byte 0x48: 00000rrr, 00010rrr, 00100rrr.
-fn unary(lo: u16) -> InstructionOpcode
-    ensures { λ r. ⌜ r ≡ unaryOf lo ⌝ }
+// A general register in the low four bits: 0qqq.
+fn register(lo: u8, opcode: InstructionOpcode) -> InstructionOpcode
+    ensures { λ r. ⌜ r ≡ registerOf opcode lo ⌝ }
 {
-    match lo / 8 {
-        0 => InstructionOpcode::Neg,
-        2 => InstructionOpcode::Inc,
-        4 => InstructionOpcode::Dec,
+    match lo % 16 {
+        0x0..=0x7 => opcode,
+        _ => InstructionOpcode::Undecodable,
+    }
+}
+
+// A general or a decimal register in the low four bits: 0qqq, 10dd.
+fn register_or_decimal(
+    lo: u8,
+    opcode: InstructionOpcode,
+    decimal: InstructionOpcode,
+) -> InstructionOpcode
+    ensures { λ r. ⌜ r ≡ registerOrDecimalOf opcode decimal lo ⌝ }
+{
+    match lo % 16 {
+        0x0..=0x7 => opcode,
+        0x8..=0xB => decimal,
         _ => InstructionOpcode::Undecodable,
     }
 }

@@ -39,16 +39,9 @@ fn main() {
     let programs: Vec<&Program> = tables.iter().flatten().collect();
     let mut berth = Path::new(&path).is_file().then(|| Berth::new(&path, &programs));
 
-    // Each machine takes its turn in each round, so that a neighbour's load falls on all alike.
     let mut rounds = vec![vec![Vec::new(); programs.len()]; MACHINES.len()];
     for _ in 0..ROUNDS {
-        let mut digests = Vec::new();
-        for (rounds, (_, profile, machine)) in rounds.iter_mut().zip(MACHINES) {
-            let (round, digest): (Vec<f64>, Vec<String>) = measured(profile, machine).into_iter().unzip();
-            rounds.iter_mut().zip(round).for_each(|(rounds, time)| rounds.push(time));
-            digests.push(digest);
-        }
-        assert!(digests.iter().all(|digest| *digest == digests[0]), "the machines leave different states");
+        round(&mut rounds);
         berth.iter_mut().for_each(Berth::round);
     }
 
@@ -68,6 +61,17 @@ fn main() {
         Some(berth) => berth.print_start_to_line(),
         None => println!("\nskipped: the program berth, which is not at {path}"),
     }
+}
+
+/// Each machine takes its turn, so that a neighbour's load falls on all alike: for each machine and program one time more.
+fn round(rounds: &mut [Vec<Vec<f64>>]) {
+    let mut digests = Vec::new();
+    for (rounds, (_, profile, machine)) in rounds.iter_mut().zip(MACHINES) {
+        let (times, digest): (Vec<f64>, Vec<String>) = measured(profile, machine).into_iter().unzip();
+        rounds.iter_mut().zip(times).for_each(|(rounds, time)| rounds.push(time));
+        digests.push(digest);
+    }
+    assert!(digests.iter().all(|digest| *digest == digests[0]), "the machines leave different states");
 }
 
 /// One child's lines: for each program the time per step, and the digest.
@@ -105,7 +109,7 @@ fn print_table(table: &[Program], rows: &[(&str, Vec<Times>)], first: usize) {
             least: times.least / published.least,
             median: times.median / published.median,
         });
-        print_row(&format!("{name}, share of the first row"), shares.map(|share| cell(&share)));
+        print_row(&format!("share of the Rust, checks off: {name}"), shares.map(|share| cell(&share)));
     }
     for program in table.iter().filter(|program| !program.computes.is_empty()) {
         println!("{}: {}", program.name, program.computes);
@@ -114,7 +118,7 @@ fn print_table(table: &[Program], rows: &[(&str, Vec<Times>)], first: usize) {
 
 /// A row of the table: a name and its columns.
 fn print_row(name: &str, columns: impl IntoIterator<Item = impl Display>) {
-    print!("{name:<36}");
+    print!("{name:<38}");
     for column in columns {
         print!(" {column:>12}");
     }

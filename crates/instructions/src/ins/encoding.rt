@@ -84,8 +84,9 @@ impl Instruction {
     pub fn decode(bits: u16) -> Decoded
         ensures { λ r. ⌜ answerOf r ≡ decodeOf bits ⌝ }
     {
-        let hi = bits / 256;
-        with_operands(opcode::opcode(bits), hi, bits)
+        let hi = (bits / 256) as u8;
+        let lo = (bits % 256) as u8;
+        with_operands(opcode::opcode(hi, lo), bits, hi, lo)
     }
 }
 
@@ -110,15 +111,13 @@ fn immediate(reg: GPR, imm: u8) -> u16
     reg.encode() * 256 + imm as u16
 }
 
-// The instruction with this opcode, with the operands that the word holds. `hi` is its upper byte: taken before the opcode is known, it lets
-// the compiler lead each opcode straight to what the instruction does.
-fn with_operands(opcode: InstructionOpcode, hi: u16, bits: u16) -> Decoded
-    ensures { λ r. ⌜ answerOf r ≡ operandsOf opcode bits hi (bits % 256) ⌝ }
+// The instruction with this opcode, with the operands that the word's two bytes hold.
+fn with_operands(opcode: InstructionOpcode, bits: u16, hi: u8, lo: u8) -> Decoded
+    ensures { λ r. ⌜ answerOf r ≡ operandsOf opcode bits hi lo ⌝ }
 {
-    let lo = bits % 256;
-    let p = GPR::from_low_bits(lo / 16);
-    let q = GPR::from_low_bits(lo);
-    let byte = lo as u8;
+    let wide = lo as u16;
+    let p = GPR::from_low_bits(wide / 16);
+    let q = GPR::from_low_bits(wide);
     let ins = match opcode {
         InstructionOpcode::Undecodable => return Decoded::Undecodable(bits),
 
@@ -127,18 +126,18 @@ fn with_operands(opcode: InstructionOpcode, hi: u16, bits: u16) -> Decoded
         InstructionOpcode::Hlt => Instruction::Hlt,
         InstructionOpcode::Mov => Instruction::Mov { dest: q, src: p },
         InstructionOpcode::DMov => Instruction::DMov {
-            dest: DR::from_low_bits(lo),
-            src: DR::from_low_bits(lo / 16),
+            dest: DR::from_low_bits(wide),
+            src: DR::from_low_bits(wide / 16),
         },
 
         // Immediate loads
         InstructionOpcode::Putl => Instruction::Putl {
-            reg: GPR::from_low_bits(hi),
-            imm: byte,
+            reg: GPR::from_low_bits(hi as u16),
+            imm: lo,
         },
         InstructionOpcode::Puth => Instruction::Puth {
-            reg: GPR::from_low_bits(hi),
-            imm: byte,
+            reg: GPR::from_low_bits(hi as u16),
+            imm: lo,
         },
 
         // Memory
@@ -146,19 +145,19 @@ fn with_operands(opcode: InstructionOpcode, hi: u16, bits: u16) -> Decoded
         InstructionOpcode::Write => Instruction::Write { addr: p, val: q },
         InstructionOpcode::Spread => Instruction::Spread {
             val: p,
-            offset: (lo % 16) as u8,
+            offset: lo % 16,
         },
         InstructionOpcode::Spwrite => Instruction::Spwrite {
-            offset: (lo % 16) as u8,
+            offset: lo % 16,
             val: p,
         },
         InstructionOpcode::DRead => Instruction::DRead {
-            val: DR::from_low_bits(lo),
+            val: DR::from_low_bits(wide),
             addr: p,
         },
         InstructionOpcode::DWrite => Instruction::DWrite {
             addr: p,
-            val: DR::from_low_bits(lo),
+            val: DR::from_low_bits(wide),
         },
         InstructionOpcode::Push => Instruction::Push { val: q },
         InstructionOpcode::Pop => Instruction::Pop { val: q },
@@ -166,10 +165,10 @@ fn with_operands(opcode: InstructionOpcode, hi: u16, bits: u16) -> Decoded
         // Special-purpose registers
         InstructionOpcode::Movso => Instruction::Movso {
             dest: q,
-            src: SPR::from_low_bits(lo / 16),
+            src: SPR::from_low_bits(wide / 16),
         },
         InstructionOpcode::Movsi => Instruction::Movsi {
-            dest: SPR::from_low_bits(lo / 16),
+            dest: SPR::from_low_bits(wide / 16),
             src: q,
         },
         InstructionOpcode::Spadd => Instruction::Spadd { val: q },
@@ -202,8 +201,8 @@ fn with_operands(opcode: InstructionOpcode, hi: u16, bits: u16) -> Decoded
         InstructionOpcode::Gteq => Instruction::Gteq { left: p, right: q },
 
         // Branching
-        InstructionOpcode::Jmpoff => Instruction::Jmpoff { offset: byte },
-        InstructionOpcode::Cjmpoff => Instruction::Cjmpoff { offset: byte },
+        InstructionOpcode::Jmpoff => Instruction::Jmpoff { offset: lo },
+        InstructionOpcode::Cjmpoff => Instruction::Cjmpoff { offset: lo },
         InstructionOpcode::Cjmp => Instruction::Cjmp { src: q },
         InstructionOpcode::Call => Instruction::Call { src: q },
         InstructionOpcode::Ret => Instruction::Ret,

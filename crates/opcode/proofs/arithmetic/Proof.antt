@@ -1,49 +1,10 @@
--- `arithmetic` meets its contract: each range by its upper byte, and the tests of the lower byte.
+-- `arithmetic` meets its contract: the rows of its upper bytes, and what lies between them.
 -- Assumes nothing.
-use mathlib.Core.Logic.{⊎-elim}
-use mathlib.Core.Path.{_≡_}
-use Prim.Native.Nat.{_/_, _%_}
 use native.Mathlib.Omega.{arith}
 use borrow.Author.Needs.{needs}
-use Rattle.opcode.proofs.UpperByte.{is-gap}
+use Rattle.opcode.proofs.UpperByte.{row, is-gap}
 use Rattle.opcode.proofs.arithmetic.Statement.{statement}
 use Rattle.opcode.proofs.arithmetic.Tie as tie
-
-returns : tie.Need-returns
-returns c =
-    let w = c .before .before .before .before .before .args .bits in
-    let e : w / 256 ≡ 0x48 = omega arith in
-    simp (e, c .unary .ensures)
-
-returns-2 : tie.Need-returns-2
-returns-2 c =
-    let w = c .before .before .before .before .args .bits in
-    ⊎-elim
-    (λ x. absurd (omega arith))
-    (λ x.
-    let e : w / 256 ≡ 0x49 = omega arith in
-    simp (e, c .paired .ensures))
-    (c .before .if3 .came)
-
-returns-3 : tie.Need-returns-3
-returns-3 c =
-    let w = c .before .before .before .before .args .bits in
-    let e : w / 256 ≡ 0x4A = omega arith in
-    simp (e, c .paired2 .ensures)
-
-returns-4 : tie.Need-returns-4
-returns-4 c =
-    let w = c .before .before .before .before .before .args .bits in
-    let e : w / 256 ≡ 0x4B = omega arith in
-    simp (e, c .paired3 .ensures)
-
-returns-5 : tie.Need-returns-5
-returns-5 c = absurd (omega arith)
-
-returns-6 : tie.Need-returns-6
-returns-6 c =
-    let w = c .before .before .before .before .args .bits in
-    is-gap 0x4B 0x50 (w / 256) (w % 256) tt (omega arith) (omega arith) (omega arith) (omega arith)
 
 pub arithmetic-spec : {M : Type 1} → statement M
 arithmetic-spec =
@@ -53,9 +14,9 @@ arithmetic-spec =
     (λ c κs. search needs)
     (λ c κs. search needs)
     (λ c κs. search needs)
-    returns
-    returns-2
-    returns-3
-    returns-4
-    returns-5
-    returns-6)
+    (λ c. search (row 0x4A))
+    (λ c. search (row 0x4B))
+    (λ c. search (row 0x48))
+    (λ c. row 0x49 (c .before .before .before .before .before .args .hi) _ (omega arith) (c .paired3 .ensures))
+    (λ c. absurd (omega arith))
+    (λ c. is-gap 0x4B 0x50 (c .before .before .before .args .hi) _ tt (omega arith) (omega arith) (omega arith) (omega arith)))

@@ -1,62 +1,39 @@
--- `moves` meets its contract: each range by its upper byte, and the tests of the lower byte.
+-- `moves` meets its contract: a law for each range.
 -- Assumes nothing.
 use mathlib.Core.Logic.{⊎-elim}
 use mathlib.Core.Path.{_≡_}
-use Prim.Native.Nat.{ℕ, _/_, _%_, _≤_}
+use Prim.Native.Nat.{ℕ, _/_, _%_, _<_, _≤_}
 use native.Mathlib.Omega.{arith}
 use borrow.Author.Needs.{needs}
 use borrow.Author.Tests.{lt-ltb, le-ltb, eq-eqb, ne-eqb}
-use Rattle.opcode.specs.Opcode.{registerOf, opcodeOf}
+use Rattle.opcode.specs.Opcode.{registerOf, registerOrDecimalOf, movesOf}
 use Rattle.opcode.specs.declared.InstructionOpcode.{InstructionOpcode}
-use Rattle.opcode.specs.declared.InstructionOpcode.the-variants.{Movsi}
+use Rattle.opcode.specs.declared.InstructionOpcode.the-variants.{Mov, DMov, Movso, Movsi, Spadd}
 use Rattle.opcode.proofs.moves.Statement.{statement}
 use Rattle.opcode.proofs.moves.Tie as tie
 
-returns : tie.Need-returns
-returns c =
-    let w = c .before .before .before .args .bits in
-    let e : w / 256 ≡ 0x21 = omega arith in
-    let m : w % 256 % 16 ≡ w % 16 = omega arith in
-    simp (e, lt-ltb (w % 256) 0x80 (omega arith), lt-ltb (w % 256) 0x40 (omega arith), m, c .register-or-decimal .ensures)
+module _ (lo : ℕ) {r : InstructionOpcode} where
+  mov-or-dmov : lo < 0x40 → r ≡ registerOrDecimalOf Mov DMov lo → r ≡ movesOf lo
+  mov-or-dmov h p = simp (lt-ltb lo 0x80 (omega arith), lt-ltb lo 0x40 h, p)
 
-returns-2 : tie.Need-returns-2
-returns-2 c =
-    let w = c .before .before .before .before .args .bits in
-    let e : w / 256 ≡ 0x21 = omega arith in
-    let m : w % 256 % 16 ≡ w % 16 = omega arith in
-    simp (e, lt-ltb (w % 256) 0x80 (omega arith), le-ltb (w % 256) 0x40 (omega arith), ne-eqb (w % 256 / 8) 0x1B (omega arith), m, c .register .ensures)
+  mov : 0x40 ≤ lo → lo < 0x80 → r ≡ registerOf Mov lo → r ≡ movesOf lo
+  mov l h p = simp (lt-ltb lo 0x80 h, le-ltb lo 0x40 l, ne-eqb (lo / 8) 0x1B (omega arith), p)
 
-returns-3 : tie.Need-returns-3
-returns-3 c =
-    let w = c .before .before .before .before .before .args .bits in
-    let e : w / 256 ≡ 0x21 = omega arith in
-    let m : w % 256 % 16 ≡ w % 16 = omega arith in
-    simp (e, le-ltb (w % 256) 0x80 (omega arith), lt-ltb (w % 256) 0xC0 (omega arith), le-ltb (w % 256) 0x40 (omega arith), ne-eqb (w % 256 / 8) 0x1B (omega arith), m, c .register2 .ensures)
+  movso : 0x80 ≤ lo → lo < 0xC0 → r ≡ registerOf Movso lo → r ≡ movesOf lo
+  movso l h p = simp (le-ltb lo 0x80 l, lt-ltb lo 0xC0 h, le-ltb lo 0x40 (omega arith), ne-eqb (lo / 8) 0x1B (omega arith), p)
 
-returns-4 : tie.Need-returns-4
-returns-4 c =
-    let w = c .before .before .before .before .before .before .args .bits in
-    let e : w / 256 ≡ 0x21 = omega arith in
-    simp (e, le-ltb (w % 256 % 16) 8 (omega arith), le-ltb (w % 256) 0x40 (omega arith), eq-eqb (w % 256 / 8) 0x1B (omega arith))
+  movsi : 0xC0 ≤ lo → (lo / 8 ≡ 0x1B → ⊥) → r ≡ registerOf Movsi lo → r ≡ movesOf lo
+  movsi l n p = simp (le-ltb lo 0x80 (omega arith), le-ltb lo 0xC0 l, le-ltb lo 0x40 (omega arith), ne-eqb (lo / 8) 0x1B n, p)
 
--- the words of movsi on both sides of those of spadd
-movsi : (w : ℕ) {r : InstructionOpcode} → w / 256 ≡ 0x21 → 0xC0 ≤ w % 256 → (w % 256 / 8 ≡ 0x1B → ⊥) → r ≡ registerOf Movsi w
-    → r ≡ opcodeOf (w / 256) (w % 256)
-movsi w e l n p =
-    let m : w % 256 % 16 ≡ w % 16 = omega arith in
-    simp (e, le-ltb (w % 256) 0x80 (omega arith), le-ltb (w % 256) 0xC0 l, le-ltb (w % 256) 0x40 (omega arith), ne-eqb (w % 256 / 8) 0x1B n, m, p)
+spadd : (lo : ℕ) → 0xD8 ≤ lo → lo < 0xE0 → Spadd ≡ movesOf lo
+spadd lo l h = simp (le-ltb (lo % 16) 8 (omega arith), le-ltb lo 0x40 (omega arith), eq-eqb (lo / 8) 0x1B (omega arith))
 
-returns-5 : tie.Need-returns-5
-returns-5 c =
-    let w = c .before .before .args .bits in
-    ⊎-elim
-    (λ x. absurd (omega arith))
-    (λ x.
-    ⊎-elim
-    (λ y. movsi w (omega arith) (omega arith) (omega arith) (c .register3 .ensures))
-    (λ y. movsi w (omega arith) (omega arith) (omega arith) (c .register3 .ensures))
-    x)
-    (c .before .if1 .came)
+-- movsi on both sides of spadd
+around-spadd : tie.Need-returns-5
+around-spadd c =
+    let lo = c .before .before .before .before .before .args .lo in
+    let n : lo / 8 ≡ 0x1B → ⊥ = ⊎-elim (λ x e. omega arith) (λ x e. omega arith) (c .before .if4 .came) in
+    movsi lo (c .before .before .if3 .left) n (c .register3 .ensures)
 
 pub moves-spec : {M : Type 1} → statement M
 moves-spec =
@@ -66,8 +43,8 @@ moves-spec =
     (λ c κs. search needs)
     (λ c κs. search needs)
     (λ c κs. search needs)
-    returns
-    returns-2
-    returns-3
-    returns-4
-    returns-5)
+    (λ c. search mov-or-dmov)
+    (λ c. search mov)
+    (λ c. search movso)
+    (λ c. search spadd)
+    around-spadd)

@@ -1,27 +1,14 @@
 -- `paired` meets its contract.
 -- Assumes nothing.
-use mathlib.Core.Path.{_≡_}
-use mathlib.Core.Logic.{⊎-elim}
-use Prim.Native.Nat.{ℕ, _/_, _%_}
-use native.Mathlib.Omega.{arith}
 use borrow.Author.Needs.{needs}
-use borrow.Author.Tests.{lt-ltb, le-ltb, ne-eqb}
+use borrow.Author.Tests.{lt-ltb, le-ltb}
 use Rattle.opcode.proofs.paired.Statement.{statement}
 use Rattle.opcode.proofs.paired.Tie as tie
-
-returns : tie.Need-returns
-returns c = simp (lt-ltb (c .before .before .args .lo) 128 (omega arith), lt-ltb (c .before .before .args .lo % 16) 8 (omega arith))
-
-returns-2 : tie.Need-returns-2
-returns-2 c = simp (lt-ltb (c .before .before .args .lo) 128 (omega arith), le-ltb (c .before .before .args .lo % 16) 8 (omega arith))
-
-returns-3 : tie.Need-returns-3
-returns-3 c = simp (le-ltb (c .before .args .lo) 128 (omega arith))
 
 pub paired-spec : {M : Type 1} → statement M
 paired-spec =
     tie.close
     (tie.spec
-    returns
-    returns-2
-    returns-3)
+    (λ c κs. search needs)
+    (λ c. rw (lt-ltb _ 0x80 (c .before .if1 .taken)) (c .register .ensures))
+    (λ c. rw (le-ltb _ 0x80 (c .if1 .left))))

@@ -1,24 +1,32 @@
--- `stack` meets its contract: each range by the function that it calls.
+-- `stack` meets its contract: the rows of its upper bytes, and what lies between them.
 -- Assumes nothing.
 use mathlib.Core.Logic.{⊎-elim}
+use Prim.Native.Nat.{_-_}
+use native.Mathlib.Nat.{eq-zero-or-pos}
 use native.Mathlib.Omega.{arith}
 use borrow.Author.Needs.{needs}
+use Rattle.opcode.proofs.UpperByte.{row, is-gap}
 use Rattle.opcode.proofs.stack.Statement.{statement}
 use Rattle.opcode.proofs.stack.Tie as tie
 
-push-or-pop-requires : tie.Need-push-or-pop-requires
-push-or-pop-requires c κs = ⊎-elim (λ x. absurd (omega arith)) (λ x. (omega arith, omega arith)) (c .if3 .came)
-
-slots-requires : tie.Need-slots-requires
-slots-requires c κs = ⊎-elim (λ x. absurd (omega arith)) (λ x. (omega arith, omega arith)) (c .if1 .came)
+-- on both sides of 0x30
+gaps : tie.Need-returns-5
+gaps c =
+    let hi = c .before .before .before .args .hi in
+    ⊎-elim
+    (λ z. is-gap 0x23 0x30 hi _ tt (omega arith) (omega arith) (omega arith) (omega arith))
+    (λ p. is-gap 0x30 0x40 hi _ tt (omega arith) (omega arith) (omega arith) (omega arith))
+    (eq-zero-or-pos (hi - 0x30))
 
 pub stack-spec : {M : Type 1} → statement M
 stack-spec =
     tie.close
     (tie.spec
     (λ c κs. search needs)
-    push-or-pop-requires
-    slots-requires
-    (λ c. search needs)
-    (λ c. search needs)
-    (λ c. search needs))
+    (λ c κs. search needs)
+    (λ c κs. search needs)
+    (λ c. search (row 0x30))
+    (λ c. search (row 0x22))
+    (λ c. row 0x23 (c .before .before .before .before .before .args .hi) _ (omega arith) (c .push-or-pop .ensures))
+    (λ c. absurd (omega arith))
+    gaps)

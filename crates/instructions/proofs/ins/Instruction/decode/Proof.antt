@@ -10,4 +10,4 @@ unfolding decodeOf
 returns c = rw (c .with-operands .ensures, c .before .opcode .ensures)
 
 pub decode-spec : {M : Type 1} → statement M
-decode-spec = tie.close (tie.spec (λ c κs. search needs) (λ c κs. search needs) returns)
+decode-spec = tie.close (tie.spec (λ c. search needs) (λ c. search needs) (λ c κs. search needs) (λ c κs. search needs) returns)

@@ -143,7 +143,6 @@ with-operands-spec =
     (λ c κs. search needs)
     (λ c κs. search needs)
     (λ c. search needs)
-    (λ c. search needs)
     undecodable
     (λ c. search needs)
     (λ c. search needs)
@@ -155,8 +154,6 @@ with-operands-spec =
     (λ c κs. search needs)
     (λ c. search needs)
     (λ c κs. search needs)
-    (λ c. search needs)
-    (λ c. search needs)
     (λ c. search needs)
     (λ c. search needs)
     (λ c. search needs)
