@@ -184,13 +184,13 @@ fn logic(hi: u8, lo: u8) -> InstructionOpcode
     ensures { λ r. ⌜ r ≡ opcodeOf hi lo ⌝ }
 {
     match hi {
-        0x40..=0x42 => match hi {
+        0x40..=0x43 => match hi {
             0x40 => single(lo, InstructionOpcode::Not),
             0x41 => ands(lo),
-            _ => paired(lo, InstructionOpcode::Or),
+            0x42 => paired(lo, InstructionOpcode::Or),
+            _ => paired(lo, InstructionOpcode::Xor),
         },
         _ => match hi {
-            0x43 => paired(lo, InstructionOpcode::Xor),
             0x44 => paired(lo, InstructionOpcode::Shl),
             0x45 => paired(lo, InstructionOpcode::Shr),
             0x47 => paired(lo, InstructionOpcode::Bitset),
@@ -305,12 +305,13 @@ fn single(lo: u8, opcode: InstructionOpcode) -> InstructionOpcode
     }
 }
 
-// General registers at p and q: 0ppp0qqq.
+// General registers at p and q, 0ppp0qqq. One test for both bits, so that the compiler leads each opcode straight to its instruction
+// (docs/PERFORMANCE.md).
 fn paired(lo: u8, opcode: InstructionOpcode) -> InstructionOpcode
     ensures { λ r. ⌜ r ≡ pairedOf opcode lo ⌝ }
 {
-    match lo {
-        0x00..=0x7F => register(lo, opcode),
+    match lo & 0x88 {
+        0x00 => opcode,
         _ => InstructionOpcode::Undecodable,
     }
 }
