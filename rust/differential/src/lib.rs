@@ -1,5 +1,6 @@
 //! The comparison of a machine with the published Rust, and with document 01 where there is no Rust.
 
+mod assembly;
 pub mod machine;
 pub mod mistakes;
 pub mod model;
