@@ -111,7 +111,7 @@ fn immediate(reg: GPR, imm: u8) -> u16
     reg.encode() * 256 + imm as u16
 }
 
-// The instruction with this opcode, with the operands that the word's two bytes hold.
+// The instruction with this opcode, with the operands that the word's two bytes hold. Registers are taken from 16 bits, hence `wide`.
 fn with_operands(opcode: InstructionOpcode, bits: u16, hi: u8, lo: u8) -> Decoded
     ensures { λ r. ⌜ answerOf r ≡ operandsOf opcode bits hi lo ⌝ }
 {

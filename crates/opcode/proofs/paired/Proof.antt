@@ -13,7 +13,11 @@ use Rattle.opcode.proofs.paired.Tie as tie
 upper : (n : ℕ) → n < 16 → bitAnd n 0x8 ≡ n / 8 * 8
 upper n h = and-high n 1 3 ∙ ap (λ (k : ℕ). k * 8) (mod-eq-of-lt (omega arith))
 
-uppers : (lo : ℕ) → lo < 256 → bitAnd lo 0x88 ≡ lo / 16 / 8 * 8 * 16 + lo % 16 / 8 * 8
+-- what the mask leaves
+abbrev left : ℕ → ℕ
+left lo = lo / 16 / 8 * 8 * 16 + lo % 16 / 8 * 8
+
+uppers : (lo : ℕ) → lo < 256 → bitAnd lo 0x88 ≡ left lo
 uppers lo h =
     let split : lo ≡ lo / 16 * 16 + lo % 16 = omega arith in
     ap (λ (n : ℕ). bitAnd n 0x88) split
@@ -23,13 +27,13 @@ uppers lo h =
 registers : tie.Need-returns
 registers c =
     let lo = c .before .args .lo in
-    let e : lo / 16 / 8 * 8 * 16 + lo % 16 / 8 * 8 ≡ 0 = sym (uppers lo (c .before .fits .lo .fits)) ∙ c .match .keys1 in
+    let e : left lo ≡ 0 = sym (uppers lo (c .before .fits .lo .fits)) ∙ c .match .keys1 in
     simp (lt-ltb lo 0x80 (omega arith), lt-ltb (lo % 16) 8 (omega arith))
 
 none : tie.Need-returns-2
 none c =
     let lo = c .before .args .lo in
-    let n : lo / 16 / 8 * 8 * 16 + lo % 16 / 8 * 8 ≡ 0 → ⊥ = λ e. c .match .rest .1 (uppers lo (c .before .fits .lo .fits) ∙ e) in
+    let n : left lo ≡ 0 → ⊥ = λ e. c .match .rest .1 (uppers lo (c .before .fits .lo .fits) ∙ e) in
     ⊎-elim
     (λ z. simp (lt-ltb lo 0x80 (omega arith), le-ltb (lo % 16) 8 (omega arith)))
     (λ p. simp (le-ltb lo 0x80 (omega arith)))
