@@ -1,4 +1,4 @@
-/* Nilguseg: the Delta Null interpreter, for C hosts. Link with libhost.a and, for decode and encode, libhost_words.a.
+/* Nilguseg: the Delta Null interpreter, for C hosts. Link with libnilguseg.a and, for decode and encode, libnilguseg_words.a.
  *
  * The numbers of faults and refusals are those of document 01.
  *

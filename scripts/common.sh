@@ -1,6 +1,6 @@
 # Sourced by the scripts beside it: settings, and what to do where something is missing.
 #
-# NILGUSEG_LIB        a folder with libhost.a and libhost_words.a; by default target/staticlib, built by `rt staticlib`
+# NILGUSEG_LIB        a folder with libnilguseg.a and libnilguseg_words.a; by default target/staticlib, built by `rt staticlib`
 # DELTA_NULL_SOURCES  a folder with the published Rust; by default ../shared/docs
 
 absolute() { [ -z "$1" ] || realpath -m "$1"; }
@@ -26,7 +26,7 @@ need_cc() {
 # Builds the library's two parts unless a folder with them was given.
 need_library() {
     local part
-    for part in host host_words; do
+    for part in nilguseg nilguseg_words; do
         if [ -z "$library_given" ] && have rt; then
             rt staticlib $part
         fi

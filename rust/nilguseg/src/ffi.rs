@@ -1,4 +1,4 @@
-//! The functions of libhost.a and libhost_words.a, as include/nilguseg.h declares them.
+//! The functions of libnilguseg.a and libnilguseg_words.a, as include/nilguseg.h declares them.
 
 use crate::Core;
 

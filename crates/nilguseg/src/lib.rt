@@ -1,0 +1,89 @@
+// What C and Rust hosts call to load, run and write. A slice is a pointer and then a length, an array a pointer.
+// `Instruction::decode` must have no caller here but the cycle, or it is not inlined into the run: see `nilguseg_words`.
+use crate::core::core_of;
+use crate::core::put_core;
+use crate::number::end_number;
+use crate::number::loaded_number;
+use crate::number::step_number;
+use crate::number::written_number;
+use sheet::load_sheet;
+use sheet::load_words;
+use sheet::write_sheet;
+ghost use mathlib.Core.Path.{_≡_};
+ghost use mathlib.Core.List.{[], _∷_};
+ghost use Rattle.emulator.specs.Machine.{stepOf, runOf};
+ghost use Rattle.sheet.specs.Load.{loadWordsOf, loadSheetOf};
+ghost use Rattle.sheet.specs.Write.{writeSheetOf};
+ghost use Rattle.nilguseg.specs.Host.{coreFrom, call, stepCall, runCall, loadCall, writeCall};
+
+mod core;
+mod number;
+
+// One step of the core.
+#[no_mangle]
+pub extern "C" fn nilguseg_step(core: &mut [u16; 12], memory: &mut [u16], marks: &mut [u8]) -> u32
+    ensures { λ r. ⌜ call r (now (core .exit) ∷ now (memory .exit) ∷ now (marks .exit) ∷ []) ≡ stepCall (stepOf (coreFrom (now (core .entry))) (now (memory .entry)) (now (marks .entry))) ⌝ }
+{
+    let step = core_of(*core).step(memory, marks);
+    let after = step.core;
+    let answer = step.answer;
+    put_core(after, core);
+    step_number(answer)
+}
+
+// A run of the core, of at most `limit` steps.
+#[no_mangle]
+pub extern "C" fn nilguseg_run(
+    core: &mut [u16; 12],
+    memory: &mut [u16],
+    marks: &mut [u8],
+    limit: u32,
+) -> u64
+    ensures { λ r. ⌜ call r (now (core .exit) ∷ now (memory .exit) ∷ now (marks .exit) ∷ []) ≡ runCall (runOf (coreFrom (now (core .entry))) (now (memory .entry)) (now (marks .entry)) limit) ⌝ }
+{
+    let run = core_of(*core).run(memory, marks, limit);
+    let after = run.core;
+    let end = run.end;
+    put_core(after, core);
+    end_number(end) as u64 * 0x100000000 + run.steps as u64
+}
+
+// Loads a plain word list.
+#[no_mangle]
+pub extern "C" fn nilguseg_load_words(
+    core: &mut [u16; 12],
+    words: &[u16],
+    memory: &mut [u16],
+) -> u32
+    ensures { λ r. ⌜ call r (now (core .exit) ∷ now (memory .exit) ∷ []) ≡ loadCall (loadWordsOf (now (words .entry)) (now (memory .entry))) ⌝ }
+{
+    let load = load_words(words, memory);
+    let fresh = load.core;
+    let answer = load.answer;
+    put_core(fresh, core);
+    loaded_number(answer)
+}
+
+// Loads a rule sheet.
+#[no_mangle]
+pub extern "C" fn nilguseg_load_sheet(
+    core: &mut [u16; 12],
+    sheet: &[u32],
+    memory: &mut [u16],
+) -> u32
+    ensures { λ r. ⌜ call r (now (core .exit) ∷ now (memory .exit) ∷ []) ≡ loadCall (loadSheetOf (now (sheet .entry)) (now (memory .entry))) ⌝ }
+{
+    let load = load_sheet(sheet, memory);
+    let loaded = load.core;
+    let answer = load.answer;
+    put_core(loaded, core);
+    loaded_number(answer)
+}
+
+// Writes the rule sheet of a core and memory.
+#[no_mangle]
+pub extern "C" fn nilguseg_write_sheet(core: &[u16; 12], memory: &[u16], sheet: &mut [u32]) -> u64
+    ensures { λ r. ⌜ call r (now (sheet .exit) ∷ []) ≡ writeCall (writeSheetOf (coreFrom (now (core .entry))) (now (memory .entry)) (now (sheet .entry))) ⌝ }
+{
+    written_number(write_sheet(core_of(*core), memory, sheet))
+}
