@@ -2,8 +2,8 @@
  *
  * The numbers of faults and refusals are those of document 01.
  *
- * Required of every call: each pointer is valid for its length (twelve words for a core, else as many
- * elements as the length beside it says), and what is lent for writing overlaps nothing else that is lent.
+ * Required of every call: each pointer is valid for its length (one core, else as many elements as the length
+ * beside it says), and what is lent for writing overlaps nothing else that is lent.
  * Nothing else is required: lengths and contents that do not fit are refused. No call keeps a pointer.
  *
  * Lengths count elements, not bytes. An answer's parts that a line below does not name are 0.
@@ -18,15 +18,24 @@
 extern "C" {
 #endif
 
-/* Places of the registers in a core; the general registers r0 to r7 stand at 0 to 7.
- * Bit 0 of ef is halt, bit 1 is condition. A fresh core is all 0 except sp, which is 0xFFFF. */
-enum { NILGUSEG_IP = 8, NILGUSEG_RP, NILGUSEG_SP, NILGUSEG_EF, NILGUSEG_REGISTERS };
+/* The registers. A fresh core is all 0 except sp, which is 0xFFFF.
+ * The library reads and writes them as words in this order, without padding: examples/c checks it. */
+typedef struct nilguseg_core {
+    uint16_t r[8]; /* r0 to r7 */
+    uint16_t ip;
+    uint16_t rp;
+    uint16_t sp;
+    uint16_t ef; /* bit 0 is halt, bit 1 is condition */
+} nilguseg_core;
 
-/* What bits 31..24 of a step's answer say. */
-enum { NILGUSEG_STEP_STEPPED, NILGUSEG_STEP_HALTED, NILGUSEG_STEP_FAULT, NILGUSEG_STEP_REFUSED };
-
-/* What bits 63..56 of a run's answer say. */
-enum { NILGUSEG_RUN_HALTED, NILGUSEG_RUN_LIMIT, NILGUSEG_RUN_FAULT, NILGUSEG_RUN_REFUSED };
+/* How a step or a run came out: one numbering for both. Numbers above 4 are free for further ends. */
+enum {
+    NILGUSEG_STEPPED = 0, /* of a step: an instruction was executed */
+    NILGUSEG_HALTED = 1,  /* the core was halted already, or the run halted it */
+    NILGUSEG_LIMIT = 2,   /* of a run: its limit of steps was reached */
+    NILGUSEG_FAULT = 3,   /* the words caused a stop */
+    NILGUSEG_REFUSED = 4  /* the lengths do not fit; nothing was changed */
+};
 
 /* The kinds of instruction, each with its operands: first, second. */
 enum {
@@ -87,7 +96,7 @@ uint32_t nilguseg_decode(uint16_t word);
 uint32_t nilguseg_encode(uint8_t kind, uint8_t first, uint8_t second);
 
 /* One step: fetch the word at ip, advance ip, decode, execute.
- *   bits 31..24  NILGUSEG_STEP_...
+ *   bits 31..24  NILGUSEG_STEPPED, _HALTED, _FAULT or _REFUSED
  *   bits 23..16  the number of the fault or the refusal
  *   bits 15..0   the fault's value
  * The step adds to the marks and clears none: 1 for an address read whose mark has not 2, 2 for one written.
@@ -101,23 +110,23 @@ uint32_t nilguseg_encode(uint8_t kind, uint8_t first, uint8_t second);
  * Refused, with core, memory and marks unchanged:
  *   1   memory_len is not 1 to 65,536
  *   2   marks_len differs from memory_len */
-uint32_t nilguseg_step(uint16_t core[12], uint16_t *memory, size_t memory_len, uint8_t *marks, size_t marks_len);
+uint32_t nilguseg_step(nilguseg_core *core, uint16_t *memory, size_t memory_len, uint8_t *marks, size_t marks_len);
 
 /* Sets all marks to 0, then steps until the core is halted, `limit` steps are counted, or a step faults.
- *   bits 63..56  NILGUSEG_RUN_...
+ *   bits 63..56  NILGUSEG_HALTED, _LIMIT, _FAULT or _REFUSED
  *   bits 55..48  the number of the fault or the refusal
  *   bits 47..32  the fault's value
  *   bits 31..0   the steps counted; one that faults is not
  * Halt is tested before the limit. A mark is then 0, or the sum of 1 (read before this run wrote there) and
  * 2 (written). Faults and refusals are those of nilguseg_step; a refused run changes nothing and has 0 steps. */
-uint64_t nilguseg_run(uint16_t core[12], uint16_t *memory, size_t memory_len, uint8_t *marks, size_t marks_len,
+uint64_t nilguseg_run(nilguseg_core *core, uint16_t *memory, size_t memory_len, uint8_t *marks, size_t marks_len,
                       uint32_t limit);
 
 /* Zeroes memory, copies the words to its beginning and makes the core a fresh one. The answer is 0.
  * Refused, with memory unchanged and the core fresh; the answer is the number:
  *   1   memory_len is not 1 to 65,536
  *   3   words_len is above memory_len */
-uint32_t nilguseg_load_words(uint16_t core[12], const uint16_t *words, size_t words_len, uint16_t *memory,
+uint32_t nilguseg_load_words(nilguseg_core *core, const uint16_t *words, size_t words_len, uint16_t *memory,
                              size_t memory_len);
 
 /* Loads a rule sheet: from a fresh core and zero memory, sets what its records say. The answer is 0.
@@ -127,7 +136,7 @@ uint32_t nilguseg_load_words(uint16_t core[12], const uint16_t *words, size_t wo
  *   20  unknown kind                 21  a bit set that must be 0      22  register above 11
  *   23  a word at or past memory_len 26  wrong count at the end record 25  records after the end record
  *   24  no end record */
-uint32_t nilguseg_load_sheet(uint16_t core[12], const uint32_t *sheet, size_t sheet_len, uint16_t *memory,
+uint32_t nilguseg_load_sheet(nilguseg_core *core, const uint32_t *sheet, size_t sheet_len, uint16_t *memory,
                              size_t memory_len);
 
 /* Writes the sheet that restores this core and memory when loaded into memory of the same length.
@@ -135,7 +144,7 @@ uint32_t nilguseg_load_sheet(uint16_t core[12], const uint32_t *sheet, size_t sh
  *   bits 63..32  0, or the number of the refusal, with the buffer unchanged and 0 records:
  *     1   memory_len is not 1 to 65,536
  *     4   sheet_len is below the number of records. 13 + memory_len + (memory_len + 1) / 2 always suffice. */
-uint64_t nilguseg_write_sheet(const uint16_t core[12], const uint16_t *memory, size_t memory_len, uint32_t *sheet,
+uint64_t nilguseg_write_sheet(const nilguseg_core *core, const uint16_t *memory, size_t memory_len, uint32_t *sheet,
                               size_t sheet_len);
 
 #ifdef __cplusplus

@@ -1,16 +1,15 @@
--- Laws of the definitions of an access, a cycle and a step, one for each way through the code: the premises are what the way's tests
--- and callees tell, so that `search` with the law proves the way's `returns`.
+-- Laws of the definitions of an access, a cycle and the host tests, one for each way through the code: the premises are what the way's
+-- tests and callees tell, so that `search` with the law proves the way's `returns`.
 use Prim.Native.Nat.{ℕ, _<_, _≤_}
 use mathlib.Core.Bool.{Bool, true, false}
-use mathlib.Core.List.{List, _++_, append-nil}
-use mathlib.Core.Path.{_≡_, refl, sym, _∙_}
+use mathlib.Core.List.{List}
+use mathlib.Core.Path.{_≡_, sym, _∙_}
 use native.Mathlib.Omega.{arith}
 use lib.Dec.{ltb, eqb}
-use lib.ListN.{length, getD, set, drop, replicate}
-use lib.Seq.{set-out, drop-length}
-use borrow.Author.Tests.{lt-ltb, le-ltb, ltb-false, eqb-true, eq-eqb, ne-eqb}
-use Rattle.instructions.specs.Choice.{if_then_else_}
-use Rattle.instructions.specs.Decoding.{answerOf, decodeOf}
+use lib.ListN.{length, getD, set}
+use borrow.Author.Tests.{lt-ltb, le-ltb, eqb-true, eq-eqb, ne-eqb}
+use Rattle.instructions.specs.Bounded.{Bounded}
+use Rattle.instructions.specs.Decoding.{decodeOf}
 use Rattle.instructions.specs.Reg.{gprNumber}
 use Rattle.instructions.specs.declared.ins.Instruction.{Instruction}
 use Rattle.instructions.specs.declared.ins.encoding.Decoded.{Decoded}
@@ -21,224 +20,126 @@ use Rattle.execute.specs.Word.{addWord, subWord}
 use Rattle.execute.specs.declared.effect.Effect.{Effect}
 use Rattle.execute.specs.declared.effect.Effect.the-variants as effect
 use Rattle.emulator.specs.Core.{coreOf}
-use Rattle.emulator.specs.Memory.{markRead, markWrite, readMark, writeMark, readOf, writtenOf}
+use Rattle.emulator.specs.Memory.{Memory, lent, refusedLength, readMark, writeMark, accessed, readOf, fetchOf, writeOf}
 use Rattle.emulator.specs.Outcome.{progressOf}
 use Rattle.emulator.specs.Machine.{Turn, turn, afterOf, accessOf, makeOf, planOf, cycleOf, refusalOf}
+use Rattle.emulator.specs.declared.cycle.Cycled.{Cycled}
 use Rattle.emulator.specs.declared.cycle.Progress.{Progress}
-use Rattle.emulator.specs.declared.cycle.Stop.{Stop}
-use Rattle.emulator.specs.declared.cycle.Stop.the-variants as stop
-use Rattle.emulator.specs.declared.cycle.Turn.{Turn as Turned}
 use Rattle.emulator.specs.declared.memory.Read.{Read}
-use Rattle.emulator.specs.declared.memory.Read.the-variants.{Word}
-use Rattle.emulator.specs.declared.memory.Written.{Written}
-use Rattle.emulator.specs.declared.memory.Written.the-variants.{Done}
+use Rattle.emulator.specs.declared.memory.Write.{Write}
+use Rattle.emulator.specs.declared.stop.Stop.{Stop}
+use Rattle.emulator.specs.declared.stop.Stop.the-variants as stop
 use Rattle.emulator.proofs.Cases.{if-elim}
 
 -- a read and a write, by their range
-module _ (mem : List ℕ) (a : ℕ) where
-  pub read-in : a < length mem → Word (getD mem a 0) ≡ readOf mem a
+module _ (ws ms : List ℕ) (a : ℕ) where
+  pub read-in : {k : ℕ} → a < length ws → k ≡ readMark (getD ms a 0) → accessed (Read.Word (getD ws a 0)) (lent ws (set ms a k)) ≡ readOf (lent ws ms) a
   unfolding readOf
-  read-in l = rw (lt-ltb a (length mem) l)
+  read-in l e = rw (lt-ltb a (length ws) l, e)
 
-  pub read-past : length mem ≤ a → Read.Outside ≡ readOf mem a
+  pub read-past : length ws ≤ a → accessed (Read.Stopped (stop.OutOfRange a)) (lent ws ms) ≡ readOf (lent ws ms) a
   unfolding readOf
-  read-past l = rw (le-ltb a (length mem) l)
+  read-past l = rw (le-ltb a (length ws) l)
 
-  pub write-in : a < length mem → Done ≡ writtenOf mem a
-  unfolding writtenOf
-  write-in l = rw (lt-ltb a (length mem) l)
+  module _ (v : ℕ) where
+    pub write-in : {k : ℕ} → a < length ws → k ≡ writeMark (getD ms a 0) → accessed Write.Done (lent (set ws a v) (set ms a k)) ≡ writeOf (lent ws ms) a v
+    unfolding writeOf
+    write-in l e = rw (lt-ltb a (length ws) l, e)
 
-  pub write-past : length mem ≤ a → Written.Outside ≡ writtenOf mem a
-  unfolding writtenOf
-  write-past l = rw (le-ltb a (length mem) l)
-
-  pub set-to : {m n : ℕ} → m ≡ n → set mem a m ≡ set mem a n
-  set-to e = rw e
-
-  pub set-past : (v : ℕ) → length mem ≤ a → mem ≡ set mem a v
-  set-past v l = sym (set-out mem a v l)
-
-  pub set-past-marks : (marks : List ℕ) (v : ℕ) → length marks ≡ length mem → length mem ≤ a → marks ≡ set marks a v
-  set-past-marks marks v e l = sym (set-out marks a v (omega arith))
-
--- a list that was filled to its end
-pub filled : (l l′ : List ℕ) (i : ℕ) → i ≡ length l → l′ ≡ replicate i 0 ++ drop i l → l′ ≡ replicate (length l) 0
-filled l l′ i e p = p ∙ rw (e, drop-length l, append-nil)
-
--- what the answer of a read tells, and of a write
-module _ (mem : List ℕ) (a : ℕ) where
-  word-in : {w : ℕ} {r : Read} → r ≡ readOf mem a → r ≡ Word w → ltb a (length mem) ≡ true
-  unfolding readOf
-  word-in {w} {r} p q = go (ltb a (length mem)) p
-    where
-      go : (t : Bool) → r ≡ (if t then Word (getD mem a 0) else Read.Outside) → t ≡ true
-      go true e = refl
-      go false e = let z : _≡_ {A = ℕ} 0 1 = cc in absurd (omega arith)
-
-  word-is : {w : ℕ} {r : Read} → r ≡ readOf mem a → r ≡ Word w → getD mem a 0 ≡ w
-  unfolding readOf
-  word-is {w} {r} p q = go (ltb a (length mem)) p
-    where
-      go : (t : Bool) → r ≡ (if t then Word (getD mem a 0) else Read.Outside) → getD mem a 0 ≡ w
-      go true e = cc
-      go false e = let z : _≡_ {A = ℕ} 0 1 = cc in absurd (omega arith)
-
-  word-out : {r : Read} → r ≡ readOf mem a → r ≡ Read.Outside → ltb a (length mem) ≡ false
-  unfolding readOf
-  word-out {r} p q = go (ltb a (length mem)) p
-    where
-      go : (t : Bool) → r ≡ (if t then Word (getD mem a 0) else Read.Outside) → t ≡ false
-      go true e = let z : _≡_ {A = ℕ} 0 1 = cc in absurd (omega arith)
-      go false e = refl
-
-  done-in : {r : Written} → r ≡ writtenOf mem a → r ≡ Done → ltb a (length mem) ≡ true
-  unfolding writtenOf
-  done-in {r} p q = go (ltb a (length mem)) p
-    where
-      go : (t : Bool) → r ≡ (if t then Done else Written.Outside) → t ≡ true
-      go true e = refl
-      go false e = let z : _≡_ {A = ℕ} 0 1 = cc in absurd (omega arith)
-
-  done-out : {r : Written} → r ≡ writtenOf mem a → r ≡ Written.Outside → ltb a (length mem) ≡ false
-  unfolding writtenOf
-  done-out {r} p q = go (ltb a (length mem)) p
-    where
-      go : (t : Bool) → r ≡ (if t then Done else Written.Outside) → t ≡ false
-      go true e = let z : _≡_ {A = ℕ} 0 1 = cc in absurd (omega arith)
-      go false e = refl
+    pub write-past : length ws ≤ a → accessed (Write.Stopped (stop.OutOfRange a)) (lent ws ms) ≡ writeOf (lent ws ms) a v
+    unfolding writeOf
+    write-past l = rw (le-ltb a (length ws) l)
 
 -- what a cycle leaves, of the special registers that the code hands back; and what applying an effect comes to
-abbrev left : Turned → List ℕ → List ℕ → List ℕ → Turn
-left t gprs mem ms = turn (progressOf (t .progress)) (coreOf gprs (t .ip) (t .rp) (t .sp) (t .ef)) mem ms
+abbrev left : Cycled → List ℕ → Memory → Turn
+left t gprs m = turn (progressOf (t .progress)) (coreOf gprs (t .ip) (t .rp) (t .sp) (t .ef)) m
 
-abbrev on : ℕ → ℕ → ℕ → ℕ → Turned
+abbrev on : ℕ → ℕ → ℕ → ℕ → Cycled
 on ip rp sp ef = record { ip = ip; rp = rp; sp = sp; ef = ef; progress = Progress.Stepped }
 
-abbrev off : ℕ → ℕ → ℕ → ℕ → Stop → Turned
+abbrev off : ℕ → ℕ → ℕ → ℕ → Stop → Cycled
 off ip rp sp ef s = record { ip = ip; rp = rp; sp = sp; ef = ef; progress = Progress.Fault s }
 
-abbrev applied : List ℕ → ℕ → ℕ → ℕ → ℕ → Effect → List ℕ → List ℕ → Turn
-applied gprs ip rp sp ef e mem ms = makeOf (afterOf (coreOf gprs ip rp sp ef) e) (accessOf e) mem ms
+abbrev applied : List ℕ → ℕ → ℕ → ℕ → ℕ → Effect → Memory → Turn
+applied gprs ip rp sp ef e m = makeOf (afterOf (coreOf gprs ip rp sp ef) e) (accessOf e) m
 
-module _ (gprs : List ℕ) (ip rp sp ef : ℕ) (mem ms : List ℕ) {e : Effect} {t : Turned} where
-  -- an effect with no access, and a stop
-  pub apply-none : e ≡ effect.None → t ≡ on ip rp sp ef → left t gprs mem ms ≡ applied gprs ip rp sp ef e mem ms
-  unfolding makeOf
-  apply-none p h = rw (p, h)
+-- an effect with no access, and a stop: by what the effect is, and what is handed back
+pub apply-plain : (gprs : List ℕ) (ip rp sp ef : ℕ) (gprs′ : List ℕ) (m : Memory) {e e′ : Effect} {t t′ : Cycled} → e ≡ e′ → t ≡ t′
+    → left t′ gprs′ m ≡ applied gprs ip rp sp ef e′ m → left t gprs′ m ≡ applied gprs ip rp sp ef e m
+apply-plain gprs ip rp sp ef gprs′ m p q h = rw (p, q) h
 
-  pub apply-gpr : {g : GeneralPurposeRegister} {i v : ℕ} → e ≡ effect.Gpr g v → i ≡ gprNumber g → t ≡ on ip rp sp ef
-      → left t (set gprs i v) mem ms ≡ applied gprs ip rp sp ef e mem ms
-  unfolding makeOf
-  apply-gpr p n h = rw (p, n, h)
+module _ (gprs : List ℕ) (ip rp sp ef : ℕ) (mem ms : List ℕ) {e : Effect} {t : Cycled} where
+  pub apply-gpr : {g : GeneralPurposeRegister} {i v n : ℕ} → e ≡ effect.Gpr g v → Bounded i (gprNumber g) n → t ≡ on ip rp sp ef
+      → left t (set gprs i v) (lent mem ms) ≡ applied gprs ip rp sp ef e (lent mem ms)
+  apply-gpr p b h = rw (p, b .is, h)
 
-  module _ {v : ℕ} where
-    pub apply-ip : e ≡ effect.Ip v → t ≡ on v rp sp ef → left t gprs mem ms ≡ applied gprs ip rp sp ef e mem ms
-    unfolding makeOf
-    apply-ip p h = rw (p, h)
+  -- a load and a store, by what the access answers
+  module _ {a up : ℕ} {g : GeneralPurposeRegister} {r : Read} {ms′ : List ℕ} (p : e ≡ effect.Load a g up)
+      (q : accessed r (lent mem ms′) ≡ readOf (lent mem ms) a) where
+    pub apply-load : {i n w sp′ : ℕ} → r ≡ Read.Word w → Bounded i (gprNumber g) n → sp′ ≡ addWord sp up → t ≡ on ip rp sp′ ef
+        → left t (set gprs i w) (lent mem ms′) ≡ applied gprs ip rp sp ef e (lent mem ms)
+    apply-load k b s h = rw (p, ← q, k, b .is, h, s)
 
-    pub apply-rp : e ≡ effect.Rp v → t ≡ on ip v sp ef → left t gprs mem ms ≡ applied gprs ip rp sp ef e mem ms
-    unfolding makeOf
-    apply-rp p h = rw (p, h)
+    pub apply-load-stopped : {s : Stop} → r ≡ Read.Stopped s → t ≡ off ip rp sp ef s → left t gprs (lent mem ms′) ≡ applied gprs ip rp sp ef e (lent mem ms)
+    apply-load-stopped k h = rw (p, ← q, k, h)
 
-    pub apply-sp : e ≡ effect.Sp v → t ≡ on ip rp v ef → left t gprs mem ms ≡ applied gprs ip rp sp ef e mem ms
-    unfolding makeOf
-    apply-sp p h = rw (p, h)
+  module _ {a v low sp′ : ℕ} {r : Write} {mem′ ms′ : List ℕ} (p : e ≡ effect.Store a v low) (s : sp′ ≡ subWord sp low)
+      (q : accessed r (lent mem′ ms′) ≡ writeOf (lent mem ms) a v) where
+    pub apply-store : r ≡ Write.Done → t ≡ on ip rp sp′ ef → left t gprs (lent mem′ ms′) ≡ applied gprs ip rp sp ef e (lent mem ms)
+    apply-store k h = rw (p, ← q, k, h, s)
 
-    pub apply-ef : e ≡ effect.Ef v → t ≡ on ip rp sp v → left t gprs mem ms ≡ applied gprs ip rp sp ef e mem ms
-    unfolding makeOf
-    apply-ef p h = rw (p, h)
-
-    pub apply-call : e ≡ effect.Call v → t ≡ on v ip sp ef → left t gprs mem ms ≡ applied gprs ip rp sp ef e mem ms
-    unfolding makeOf
-    apply-call p h = rw (p, h)
-
-    pub apply-decimal : e ≡ effect.Decimal v → t ≡ off ip rp sp ef (stop.Decimal v) → left t gprs mem ms ≡ applied gprs ip rp sp ef e mem ms
-    unfolding makeOf
-    apply-decimal p h = rw (p, h)
-
-    pub apply-amount : e ≡ effect.Amount v → t ≡ off ip rp sp ef (stop.Amount v) → left t gprs mem ms ≡ applied gprs ip rp sp ef e mem ms
-    unfolding makeOf
-    apply-amount p h = rw (p, h)
-
-    pub apply-negation : e ≡ effect.Negation v → t ≡ off ip rp sp ef (stop.Negation v) → left t gprs mem ms ≡ applied gprs ip rp sp ef e mem ms
-    unfolding makeOf
-    apply-negation p h = rw (p, h)
-
-  -- a load and a store, by their range
-  module _ {a up : ℕ} {g : GeneralPurposeRegister} {r : Read} {ms′ : List ℕ} (p : e ≡ effect.Load a g up) (q : r ≡ readOf mem a) (m : ms′ ≡ markRead ms a) where
-    pub apply-load : {i w sp′ : ℕ} → r ≡ Word w → i ≡ gprNumber g → sp′ ≡ addWord sp up → t ≡ on ip rp sp′ ef
-        → left t (set gprs i w) mem ms′ ≡ applied gprs ip rp sp ef e mem ms
-    unfolding makeOf
-    apply-load k n s h = rw (p, word-in mem a q k, word-is mem a q k, m, n, h, s)
-
-    pub apply-load-out : length ms ≡ length mem → r ≡ Read.Outside → t ≡ off ip rp sp ef (stop.OutOfRange a)
-        → left t gprs mem ms′ ≡ applied gprs ip rp sp ef e mem ms
-    unfolding makeOf
-    apply-load-out l k h =
-        let out = ltb-false a (length mem) (word-out mem a q k) in
-        rw (p, word-out mem a q k, m, set-out ms a (readMark (getD ms a 0)) (omega arith), h)
-
-  module _ {a v low sp′ : ℕ} {r : Written} {mem′ ms′ : List ℕ} (p : e ≡ effect.Store a v low) (s : sp′ ≡ subWord sp low)
-      (q : r ≡ writtenOf mem a) (n : mem′ ≡ set mem a v) (m : ms′ ≡ markWrite ms a) where
-    pub apply-store : r ≡ Done → t ≡ on ip rp sp′ ef → left t gprs mem′ ms′ ≡ applied gprs ip rp sp ef e mem ms
-    unfolding makeOf
-    apply-store k h = rw (p, done-in mem a q k, n, m, h, s)
-
-    pub apply-store-out : length ms ≡ length mem → r ≡ Written.Outside → t ≡ off ip rp sp′ ef (stop.OutOfRange a)
-        → left t gprs mem′ ms′ ≡ applied gprs ip rp sp ef e mem ms
-    unfolding makeOf
-    apply-store-out l k h =
-        let out = ltb-false a (length mem) (done-out mem a q k) in
-        rw (p, done-out mem a q k, n, m, set-out mem a v out, set-out ms a (writeMark (getD ms a 0)) (omega arith), h, s)
+    pub apply-store-stopped : {x : Stop} → r ≡ Write.Stopped x → t ≡ off ip rp sp′ ef x → left t gprs (lent mem′ ms′) ≡ applied gprs ip rp sp ef e (lent mem ms)
+    apply-store-stopped k h = rw (p, ← q, k, h, s)
 
 -- a cycle, by its fetch and its decoding
-module _ (gprs : List ℕ) (ip rp sp ef : ℕ) (mem ms : List ℕ) {ms′ : List ℕ} {r : Read} (q : r ≡ readOf mem ip) (m : ms′ ≡ markRead ms ip) where
-  pub cycle-out : {t : Turned} → length ms ≡ length mem → r ≡ Read.Outside → t ≡ off ip rp sp ef (stop.OutOfRange ip)
-      → left t gprs mem ms′ ≡ cycleOf (coreOf gprs ip rp sp ef) mem ms
+module _ (gprs : List ℕ) (ip rp sp ef : ℕ) (mem ms : List ℕ) {ms′ : List ℕ} {r : Read} (q : accessed r (lent mem ms′) ≡ fetchOf (lent mem ms) ip) where
+  pub cycle-stopped : {s : Stop} {t : Cycled} → r ≡ Read.Stopped s → t ≡ off ip rp sp ef s
+      → left t gprs (lent mem ms′) ≡ cycleOf planOf (coreOf gprs ip rp sp ef) (lent mem ms)
   unfolding cycleOf
-  cycle-out l k h =
-      let out = ltb-false ip (length mem) (word-out mem ip q k) in
-      rw (word-out mem ip q k, m, set-out ms ip (readMark (getD ms ip 0)) (omega arith), h)
+  cycle-stopped k h = rw (← q, k, h)
 
-  module _ {w next : ℕ} {d : Decoded} (k : r ≡ Word w) (n : next ≡ addWord ip 1) (a : answerOf d ≡ decodeOf w) where
-    pub cycle-undecodable : {v : ℕ} {t : Turned} → d ≡ Decoded.Undecodable v → t ≡ off next rp sp ef (stop.Undecodable v)
-        → left t gprs mem ms′ ≡ cycleOf (coreOf gprs ip rp sp ef) mem ms
-    unfolding cycleOf planOf makeOf
-    cycle-undecodable u h = rw (word-in mem ip q k, word-is mem ip q k, ← n, ← m, ← a, u, h)
+  module _ {w next : ℕ} {d : Decoded} (k : r ≡ Read.Word w) (n : next ≡ addWord ip 1) (a : d ≡ decodeOf w) where
+    pub cycle-undecodable : {v : ℕ} {t : Cycled} → d ≡ Decoded.Undecodable v → t ≡ off next rp sp ef (stop.Undecodable v)
+        → left t gprs (lent mem ms′) ≡ cycleOf planOf (coreOf gprs ip rp sp ef) (lent mem ms)
+    unfolding cycleOf planOf
+    cycle-undecodable u h = rw (← q, k, ← n, ← a, u, h)
 
     pub cycle-decoded : {i : Instruction} {e : Effect} {t : Turn} → d ≡ Decoded.Ins i → e ≡ executeOf (registers gprs next rp sp ef) i w
-        → t ≡ applied gprs next rp sp ef e mem ms′ → t ≡ cycleOf (coreOf gprs ip rp sp ef) mem ms
+        → t ≡ applied gprs next rp sp ef e (lent mem ms′) → t ≡ cycleOf planOf (coreOf gprs ip rp sp ef) (lent mem ms)
     unfolding cycleOf planOf
-    cycle-decoded u x h = rw (word-in mem ip q k, word-is mem ip q k, ← n, ← m, ← a, u, ← x) h
+    cycle-decoded u x h = rw (← q, k, ← n, ← a, u, ← x) h
 
 -- the host tests
-module _ (mem ms : List ℕ) where
-  pub refused-empty : length mem ≡ 0 → 1 ≡ refusalOf mem ms
-  unfolding refusalOf
-  refused-empty e = rw (eq-eqb (length mem) 0 e)
+pub length-none : (n : ℕ) → n ≡ 0 → true ≡ refusedLength n
+unfolding refusedLength
+length-none n e = rw (eq-eqb n 0 e)
 
-  pub refused-long : (length mem ≡ 0 → ⊥) → 65536 < length mem → 1 ≡ refusalOf mem ms
-  unfolding refusalOf
-  refused-long n l = rw (ne-eqb (length mem) 0 n, lt-ltb 65536 (length mem) l)
+pub length-some : (n : ℕ) → (n ≡ 0 → ⊥) → ltb 65536 n ≡ refusedLength n
+unfolding refusedLength
+length-some n e = rw (ne-eqb n 0 e)
 
-  pub refused-none : (length mem ≡ 0 → ⊥) → length mem ≤ 65536 → length ms ≡ length mem → 0 ≡ refusalOf mem ms
+module _ (mem ms : List ℕ) {b : Bool} (asked : b ≡ refusedLength (length mem)) where
+  pub refused-length : b ≡ true → 1 ≡ refusalOf (lent mem ms)
   unfolding refusalOf
-  refused-none n l e = rw (ne-eqb (length mem) 0 n, le-ltb 65536 (length mem) l, eq-eqb (length ms) (length mem) e)
+  refused-length e = rw (← asked, e)
 
-  pub refused-marks : (length mem ≡ 0 → ⊥) → length mem ≤ 65536 → (length ms ≡ length mem → ⊥) → 2 ≡ refusalOf mem ms
+  pub refused-none : b ≡ false → length ms ≡ length mem → 0 ≡ refusalOf (lent mem ms)
   unfolding refusalOf
-  refused-marks n l e = rw (ne-eqb (length mem) 0 n, le-ltb 65536 (length mem) l, ne-eqb (length ms) (length mem) e)
+  refused-none n e = rw (← asked, n, eq-eqb (length ms) (length mem) e)
+
+  pub refused-marks : b ≡ false → (length ms ≡ length mem → ⊥) → 2 ≡ refusalOf (lent mem ms)
+  unfolding refusalOf
+  refused-marks n e = rw (← asked, n, ne-eqb (length ms) (length mem) e)
 
 -- no host test refuses: the lists are equally long
-pub accepted-marked : (mem ms : List ℕ) → refusalOf mem ms ≡ 0 → length ms ≡ length mem
+pub accepted-marked : (m : Memory) → refusalOf m ≡ 0 → length (m .marks) ≡ length (m .words)
 unfolding refusalOf
-accepted-marked mem ms =
-    if-elim Says (eqb (length mem) 0) (λ _ z. omega arith)
-    (λ _. if-elim Says (ltb 65536 (length mem)) (λ _ z. omega arith)
-    (λ _. if-elim Says (eqb (length ms) (length mem)) (λ e _. eqb-true _ _ e) (λ _ z. omega arith)))
+accepted-marked m =
+    if-elim Says (refusedLength (length (m .words))) (λ _ z. omega arith)
+    (λ _. if-elim Says (eqb (length (m .marks)) (length (m .words))) (λ e _. eqb-true _ _ e) (λ _ z. omega arith))
   where
     Says : ℕ → Type 0
-    Says x = x ≡ 0 → length ms ≡ length mem
+    Says x = x ≡ 0 → length (m .marks) ≡ length (m .words)
 
-pub marked : (mem ms : List ℕ) {r : ℕ} → r ≡ refusalOf mem ms → r ≡ 0 → length ms ≡ length mem
-marked mem ms p z = accepted-marked mem ms (sym p ∙ z)
+pub accepted : (mem ms : List ℕ) {r : ℕ} → r ≡ refusalOf (lent mem ms) → r ≡ 0 → length ms ≡ length mem
+accepted mem ms p z = accepted-marked (lent mem ms) (sym p ∙ z)

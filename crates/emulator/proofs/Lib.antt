@@ -1,7 +1,8 @@
 pub mod Cases
+pub mod Fill
 pub mod Marks
 pub mod Laws
 pub mod Keeps
 pub mod Runs
 pub mod Agreement
-pub mod Examples
+pub mod Rows

@@ -1,19 +1,21 @@
 -- Two runs agree (document 01, The run): one claim over every two accepted runs of one core and one limit. It rests on the definitions
 -- of Machine.antt and mentions no instruction.
 use Prim.Native.Nat.{ℕ}
-use mathlib.Core.List.{List}
 use mathlib.Core.Path.{_≡_}
 use lib.ListN.{length, getD}
-use Rattle.emulator.specs.Memory.{bit0, bit1}
-use Rattle.emulator.specs.Machine.{Ran, refusalOf, runOf}
+use Rattle.emulator.specs.Memory.{Memory, wasRead, wasWritten}
+use Rattle.emulator.specs.Machine.{Plan, planOf, Ran, refusalOf, runOf}
 use Rattle.emulator.specs.declared.core.Core.{Core}
 
--- the word, or the mark, at an address
-abbrev pub at : List ℕ → ℕ → ℕ
-at l a = getD l a 0
+-- the word, and the mark, at an address
+abbrev pub wordAt : Memory → ℕ → ℕ
+wordAt m a = getD (m .words) a 0
 
--- What is equal when both runs have ended: the first, r, started with the memory mem, the second, q, with mem′.
-pub record Agree (mem mem′ : List ℕ) (r q : Ran) : Type 0 where
+abbrev pub markAt : Memory → ℕ → ℕ
+markAt m a = getD (m .marks) a 0
+
+-- What is equal when both runs have ended: the first, r, started with the memory m, the second, q, with m′.
+pub record Agree (m m′ : Memory) (r q : Ran) : Type 0 where
   -- the end, with its number and its value
   pub end : q .end ≡ r .end
   -- the steps counted
@@ -21,22 +23,26 @@ pub record Agree (mem mem′ : List ℕ) (r q : Ran) : Type 0 where
   -- the twelve registers
   pub core : q .core ≡ r .core
   -- the mark of every address
-  pub marks : q .marks ≡ r .marks
+  pub marks : q .memory .marks ≡ r .memory .marks
   -- the final word at every address whose mark includes 2
-  pub written : (a : ℕ) → bit1 (at (r .marks) a) ≡ 1 → at (q .memory) a ≡ at (r .memory) a
+  pub written : (a : ℕ) → wasWritten (markAt (r .memory) a) ≡ 1 → wordAt (q .memory) a ≡ wordAt (r .memory) a
   -- every other address keeps the word that it had at its own run's start
-  pub first-kept : (a : ℕ) → bit1 (at (r .marks) a) ≡ 0 → at (r .memory) a ≡ at mem a
-  pub second-kept : (a : ℕ) → bit1 (at (q .marks) a) ≡ 0 → at (q .memory) a ≡ at mem′ a
+  pub first-kept : (a : ℕ) → wasWritten (markAt (r .memory) a) ≡ 0 → wordAt (r .memory) a ≡ wordAt m a
+  pub second-kept : (a : ℕ) → wasWritten (markAt (q .memory) a) ≡ 0 → wordAt (q .memory) a ≡ wordAt m′ a
   -- the lengths
-  pub first-length : length (r .memory) ≡ length mem
-  pub second-length : length (q .memory) ≡ length mem′
-  pub marks-length : length (r .marks) ≡ length mem
+  pub first-length : length (r .memory .words) ≡ length (m .words)
+  pub second-length : length (q .memory .words) ≡ length (m′ .words)
+  pub marks-length : length (r .memory .marks) ≡ length (m .words)
 
 -- No host test refuses the runs, whatever marks they are lent; the memories are equally long, and equal as they stand when the runs
 -- start wherever the first run's final mark includes 1.
+abbrev pub AgreementOf : (Core → ℕ → Plan) → Type 0
+AgreementOf plan =
+    (c : Core) (limit : ℕ) (m m′ : Memory)
+    → refusalOf m ≡ 0 → refusalOf m′ ≡ 0 → length (m .words) ≡ length (m′ .words)
+    → ((a : ℕ) → wasRead (markAt (runOf plan c m limit .memory) a) ≡ 1 → wordAt m a ≡ wordAt m′ a)
+    → Agree m m′ (runOf plan c m limit) (runOf plan c m′ limit)
+
+-- the agreement of this machine's runs
 abbrev pub Agreement : Type 0
-Agreement =
-    (c : Core) (limit : ℕ) (mem mem′ ms ms′ : List ℕ)
-    → refusalOf mem ms ≡ 0 → refusalOf mem′ ms′ ≡ 0 → length mem ≡ length mem′
-    → ((a : ℕ) → bit0 (at (runOf c mem ms limit .marks) a) ≡ 1 → at mem a ≡ at mem′ a)
-    → Agree mem mem′ (runOf c mem ms limit) (runOf c mem′ ms′ limit)
+Agreement = AgreementOf planOf

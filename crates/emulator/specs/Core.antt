@@ -2,12 +2,13 @@
 use Prim.Native.Nat.{ℕ}
 use mathlib.Core.Bool.{Bool}
 use mathlib.Core.List.{List}
-use lib.ListN.{getD, set, replicate}
+use lib.ListN.{set, replicate}
 use Rattle.instructions.specs.declared.reg.GeneralPurposeRegister.{GeneralPurposeRegister}
 use Rattle.instructions.specs.declared.reg.SpecialPurposeRegister.{SpecialPurposeRegister}
 use Rattle.instructions.specs.declared.reg.SpecialPurposeRegister.the-variants.{IP, RP, SP, EF}
 use Rattle.instructions.specs.Reg.{gprNumber}
 use Rattle.execute.specs.Flags.{haltOf, condOf, withCond}
+use Rattle.execute.specs.Registers.{gprOf, sprOf}
 use Rattle.emulator.specs.declared.core.Core.{Core}
 
 -- a core of its registers: r0 to r7 as a list, then ip, rp, sp, ef
@@ -20,17 +21,14 @@ newCore = coreOf (replicate 8 0) 0 0 0xFFFF 0
 
 -- a general register, and the core with it changed
 abbrev pub readGpr : Core → GeneralPurposeRegister → ℕ
-readGpr c r = getD (c .gprs) (gprNumber r) 0
+readGpr c r = gprOf (c .gprs) r
 
 abbrev pub writeGpr : Core → GeneralPurposeRegister → ℕ → Core
 writeGpr c r v = coreOf (set (c .gprs) (gprNumber r) v) (c .ip) (c .rp) (c .sp) (c .ef)
 
 -- a special register, and the core with it changed
 abbrev pub readSpr : Core → SpecialPurposeRegister → ℕ
-readSpr c IP = c .ip
-readSpr c RP = c .rp
-readSpr c SP = c .sp
-readSpr c EF = c .ef
+readSpr c r = sprOf (c .ip) (c .rp) (c .sp) (c .ef) r
 
 abbrev pub writeSpr : Core → SpecialPurposeRegister → ℕ → Core
 writeSpr c IP v = coreOf (c .gprs) v (c .rp) (c .sp) (c .ef)

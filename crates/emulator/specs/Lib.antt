@@ -3,3 +3,5 @@ pub mod Memory
 pub mod Outcome
 pub mod Machine
 pub mod Agreement
+pub mod Claims
+pub mod Rows

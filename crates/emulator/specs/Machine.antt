@@ -2,13 +2,11 @@
 -- run see an instruction only through its plan.
 use Prim.Native.Nat.{ℕ, zero, suc, _+_}
 use mathlib.Core.Bool.{Bool, true, false}
-use mathlib.Core.List.{List}
-use lib.Dec.{ltb, eqb}
-use lib.ListN.{length, getD, set, replicate}
-use Rattle.instructions.specs.Answer.{Answer, gives, stops}
+use lib.Dec.{eqb}
+use lib.ListN.{length, replicate}
 use Rattle.instructions.specs.Choice.{if_then_else_}
 use Rattle.instructions.specs.Decoding.{decodeOf}
-use Rattle.instructions.specs.declared.ins.Instruction.{Instruction}
+use Rattle.instructions.specs.declared.ins.encoding.Decoded.{Decoded}
 use Rattle.instructions.specs.declared.reg.GeneralPurposeRegister.{GeneralPurposeRegister}
 use Rattle.instructions.specs.declared.reg.SpecialPurposeRegister.the-variants.{IP, RP, SP, EF}
 use Rattle.execute.specs.Execute.{executeOf}
@@ -17,19 +15,23 @@ use Rattle.execute.specs.Word.{addWord, subWord}
 use Rattle.execute.specs.declared.effect.Effect.{Effect}
 use Rattle.execute.specs.declared.effect.Effect.the-variants as effect
 use Rattle.emulator.specs.Core.{writeGpr, writeSpr, isHalted}
-use Rattle.emulator.specs.Memory.{markRead, markWrite}
-use Rattle.emulator.specs.Outcome.{Outcome, stepped, halted, limit, fault, refused}
+use Rattle.emulator.specs.Memory.{Memory, lent, refusedLength, Accessed, readOf, fetchOf, writeOf}
+use Rattle.emulator.specs.Outcome.{Outcome, stepped, halted, limit, fault, refused, stopOf}
 use Rattle.emulator.specs.declared.core.Core.{Core}
+use Rattle.emulator.specs.declared.memory.Read.{Read}
+use Rattle.emulator.specs.declared.memory.Write.{Write}
+use Rattle.emulator.specs.declared.stop.Stop.{Stop}
+use Rattle.emulator.specs.declared.stop.Stop.the-variants as stops
 
 -- What an instruction does (One step).
 
 -- the access that an instruction leaves to be made: none, a load from an address to a register, after which sp rises, a store of a
--- word to an address, or a stop with its number and value
+-- word to an address, or a stop
 pub data Access : Type 0 where
   none : Access
   load : ℕ → GeneralPurposeRegister → ℕ → Access
   store : ℕ → ℕ → Access
-  stop : ℕ → ℕ → Access
+  stop : Stop → Access
 
 -- what becomes of the registers before that access
 abbrev pub afterOf : Core → Effect → Core
@@ -56,92 +58,88 @@ accessOf (effect.Ef v) = none
 accessOf (effect.Call a) = none
 accessOf (effect.Load a r up) = load a r up
 accessOf (effect.Store a v low) = store a v
-accessOf (effect.Decimal w) = stop 12 w
-accessOf (effect.Amount a) = stop 13 a
-accessOf (effect.Negation v) = stop 14 v
+accessOf (effect.Decimal w) = stop (stops.Decimal w)
+accessOf (effect.Amount a) = stop (stops.Amount a)
+accessOf (effect.Negation v) = stop (stops.Negation v)
 
 -- the registers after an instruction, and its access
 pub record Plan : Type 0 where
   pub core : Core
   pub access : Access
 
-abbrev pub plan : Core → Access → Plan
-plan c x = record { core = c; access = x }
+abbrev pub planned : Core → Access → Plan
+planned c x = record { core = c; access = x }
 
-abbrev pub effectPlan : Core → Effect → Plan
-effectPlan c e = plan (afterOf c e) (accessOf e)
+abbrev pub decodedPlan : Core → ℕ → Decoded → Plan
+decodedPlan c w (Decoded.Ins i) =
+    let e = executeOf (registers (c .gprs) (c .ip) (c .rp) (c .sp) (c .ef)) i w in
+    planned (afterOf c e) (accessOf e)
+decodedPlan c w (Decoded.Undecodable v) = planned c (stop (stops.Undecodable v))
 
-abbrev pub decodedPlan : Core → ℕ → Answer Instruction → Plan
-decodedPlan c w (gives i) = effectPlan c (executeOf (registers (c .gprs) (c .ip) (c .rp) (c .sp) (c .ef)) i w)
-decodedPlan c w (stops n v) = plan c (stop n v)
-
--- decode, execute: the plan of the word w, once ip is advanced; an undecodable word is a stop
+-- decode, execute: the plan of the word w, once ip is advanced
 unfoldable pub planOf : Core → ℕ → Plan
 planOf c w = decodedPlan c w (decodeOf w)
 
 -- What an access does (One step; Stops).
 
--- what a step leaves: how it came out, the core, and what the two lent lists hold
+-- what a step leaves: how it came out, the core, and memory
 pub record Turn : Type 0 where
   pub outcome : Outcome
   pub core : Core
-  pub memory : List ℕ
-  pub marks : List ℕ
+  pub memory : Memory
 
-abbrev pub turn : Outcome → Core → List ℕ → List ℕ → Turn
-turn o c mem ms = record { outcome = o; core = c; memory = mem; marks = ms }
+abbrev pub turn : Outcome → Core → Memory → Turn
+turn o c m = record { outcome = o; core = c; memory = m }
 
--- a word that was loaded into a register, after which sp rises
-abbrev pub loadedOf : Core → GeneralPurposeRegister → ℕ → ℕ → Core
-loadedOf c r up w = writeSpr (writeGpr c r w) SP (addWord (c .sp) up)
+-- after a read: more, with the word and memory as the read leaves it; where it stopped, the core as it is
+abbrev pub onWord : (ℕ → Memory → Turn) → Core → Memory → Read → Turn
+onWord more c m (Read.Word w) = more w m
+onWord more c m (Read.Stopped s) = turn (stopOf s) c m
 
--- the access made: out of range is stop 11 with the address, which gets no mark
-unfoldable pub makeOf : Core → Access → List ℕ → List ℕ → Turn
-makeOf c none mem ms = turn stepped c mem ms
-makeOf c (load a r up) mem ms =
-    if ltb a (length mem) then turn stepped (loadedOf c r up (getD mem a 0)) mem (markRead ms a) else turn (fault 11 a) c mem ms
-makeOf c (store a v) mem ms =
-    if ltb a (length mem) then turn stepped c (set mem a v) (markWrite ms a) else turn (fault 11 a) c mem ms
-makeOf c (stop n v) mem ms = turn (fault n v) c mem ms
+abbrev pub afterRead : Accessed Read → Core → (ℕ → Memory → Turn) → Turn
+afterRead x c more = onWord more c (x .memory) (x .answer)
 
-abbrev pub made : Plan → List ℕ → List ℕ → Turn
-made p mem ms = makeOf (p .core) (p .access) mem ms
+-- after a write
+abbrev pub onWrite : Core → Memory → Write → Turn
+onWrite c m Write.Done = turn stepped c m
+onWrite c m (Write.Stopped s) = turn (stopOf s) c m
+
+abbrev pub afterWrite : Accessed Write → Core → Turn
+afterWrite x c = onWrite c (x .memory) (x .answer)
+
+-- a word loaded into a register, after which sp rises
+abbrev pub loaded : Core → GeneralPurposeRegister → ℕ → ℕ → Core
+loaded c r up w = writeSpr (writeGpr c r w) SP (addWord (c .sp) up)
+
+-- the access made
+abbrev pub makeOf : Core → Access → Memory → Turn
+makeOf c none m = turn stepped c m
+makeOf c (load a r up) m = afterRead (readOf m a) c (λ w. turn stepped (loaded c r up w))
+makeOf c (store a v) m = afterWrite (writeOf m a v) c
+makeOf c (stop s) m = turn (stopOf s) c m
+
+abbrev pub made : Plan → Memory → Turn
+made p = makeOf (p .core) (p .access)
 
 -- ip + 1
 abbrev pub advanced : Core → Core
 advanced c = writeSpr c IP (addWord (c .ip) 1)
 
--- fetch at ip, add 1 to ip, decode, execute, make the access; a fetch is a read, and out of range doesn't advance ip
-unfoldable pub cycleOf : Core → List ℕ → List ℕ → Turn
-cycleOf c mem ms =
-    if ltb (c .ip) (length mem)
-    then made (planOf (advanced c) (getD mem (c .ip) 0)) mem (markRead ms (c .ip))
-    else turn (fault 11 (c .ip)) c mem ms
-
 -- What a step and a run do (One step; The run).
 
 -- the host tests, in number order: 1, memory length not 1..65,536; 2, marks length differs from it; 0, no test refuses
-unfoldable pub refusalOf : List ℕ → List ℕ → ℕ
-refusalOf mem ms =
-    if eqb (length mem) 0 then 1 else (if ltb 65536 (length mem) then 1 else (if eqb (length ms) (length mem) then 0 else 2))
+unfoldable pub refusalOf : Memory → ℕ
+refusalOf m = if refusedLength (length (m .words)) then 1 else (if eqb (length (m .marks)) (length (m .words)) then 0 else 2)
 
--- one step: a refused one, and one of a halted core, changes nothing
-unfoldable pub stepOf : Core → List ℕ → List ℕ → Turn
-stepOf c mem ms =
-    if eqb (refusalOf mem ms) 0
-    then (if isHalted c then turn halted c mem ms else cycleOf c mem ms)
-    else turn (refused (refusalOf mem ms)) c mem ms
-
--- what a run leaves: its end, the steps counted, the core, and what the two lent lists hold
+-- what a run leaves: its end, the steps counted, the core, and memory
 pub record Ran : Type 0 where
   pub end : Outcome
   pub steps : ℕ
   pub core : Core
-  pub memory : List ℕ
-  pub marks : List ℕ
+  pub memory : Memory
 
-abbrev pub ran : Outcome → ℕ → Core → List ℕ → List ℕ → Ran
-ran o n c mem ms = record { end = o; steps = n; core = c; memory = mem; marks = ms }
+abbrev pub ran : Outcome → ℕ → Core → Memory → Ran
+ran o n c m = record { end = o; steps = n; core = c; memory = m }
 
 abbrev pub isStepped : Outcome → Bool
 isStepped stepped = true
@@ -150,22 +148,37 @@ isStepped limit = false
 isStepped (fault n v) = false
 isStepped (refused n) = false
 
--- after a turn: more turns if it stepped, else the end, and the turn isn't counted
-abbrev pub nextOf : (Core → List ℕ → List ℕ → Ran) → ℕ → Turn → Ran
+-- after a turn: more turns if it stepped, else the end, and the turn isn't counted. A branch stands in a `let` so that it is computed
+-- only where it is taken; so in the run.
+abbrev pub nextOf : (Core → Memory → Ran) → ℕ → Turn → Ran
 nextOf more n t =
-    let rest = more (t .core) (t .memory) (t .marks) in
-    if isStepped (t .outcome) then rest else ran (t .outcome) n (t .core) (t .memory) (t .marks)
+    let rest = more (t .core) (t .memory) in
+    if isStepped (t .outcome) then rest else ran (t .outcome) n (t .core) (t .memory)
 
--- the run from a core, n steps counted and k left before the limit: halt first, then the limit, then a step
-unfoldable pub runFrom : ℕ → ℕ → Core → List ℕ → List ℕ → Ran
-runFrom zero n c mem ms = if isHalted c then ran halted n c mem ms else ran limit n c mem ms
-runFrom (suc k) n c mem ms =
-    let rest = nextOf (runFrom k (n + 1)) n (cycleOf c mem ms) in
-    if isHalted c then ran halted n c mem ms else rest
+-- all marks 0
+abbrev pub unmarked : Memory → Memory
+unmarked m = lent (m .words) (replicate (length (m .marks)) 0)
 
--- the run: the host tests, then all marks 0, then the turns
-unfoldable pub runOf : Core → List ℕ → List ℕ → ℕ → Ran
-runOf c mem ms up-to =
-    if eqb (refusalOf mem ms) 0
-    then runFrom up-to 0 c mem (replicate (length ms) 0)
-    else ran (refused (refusalOf mem ms)) 0 c mem ms
+-- the machine, over what a word is planned to do
+module _ (plan : Core → ℕ → Plan) where
+  -- fetch at ip, add 1 to ip, decode, execute, make the access; a fetch that stops doesn't advance ip
+  unfoldable pub cycleOf : Core → Memory → Turn
+  cycleOf c m = afterRead (fetchOf m (c .ip)) c (λ w. made (plan (advanced c) w))
+
+  -- one step: a refused one, and one of a halted core, changes nothing
+  unfoldable pub stepOf : Core → Memory → Turn
+  stepOf c m =
+      if eqb (refusalOf m) 0
+      then (if isHalted c then turn halted c m else cycleOf c m)
+      else turn (refused (refusalOf m)) c m
+
+  -- the run from a core, k steps left before the limit and n counted: halt first, then the limit, then a step
+  unfoldable pub runFrom : ℕ → ℕ → Core → Memory → Ran
+  runFrom zero n c m = if isHalted c then ran halted n c m else ran limit n c m
+  runFrom (suc k) n c m =
+      let rest = nextOf (runFrom k (n + 1)) n (cycleOf c m) in
+      if isHalted c then ran halted n c m else rest
+
+  -- the run: the host tests, then all marks 0, then the turns
+  unfoldable pub runOf : Core → Memory → ℕ → Ran
+  runOf c m up-to = if eqb (refusalOf m) 0 then runFrom up-to 0 c (unmarked m) else ran (refused (refusalOf m)) 0 c m

@@ -1,39 +1,71 @@
--- Marks, and what a read and a write at an address come to (document 01, Records and One step).
+-- Memory with its marks, and what an access to it comes to (document 01, Records, One step and Stops).
 use Prim.Native.Nat.{ℕ, _+_, _/_, _%_}
+use mathlib.Core.Bool.{Bool, true}
 use mathlib.Core.List.{List}
 use lib.Dec.{ltb, eqb}
 use lib.ListN.{length, getD, set}
 use Rattle.instructions.specs.Choice.{if_then_else_}
 use Rattle.emulator.specs.declared.memory.Read.{Read}
 use Rattle.emulator.specs.declared.memory.Read.the-variants.{Word}
-use Rattle.emulator.specs.declared.memory.Written.{Written}
-use Rattle.emulator.specs.declared.memory.Written.the-variants.{Done}
+use Rattle.emulator.specs.declared.memory.Write.{Write}
+use Rattle.emulator.specs.declared.memory.Write.the-variants.{Done}
+use Rattle.emulator.specs.declared.stop.Stop.the-variants.{OutOfRange}
 
--- whether a mark includes 1, read at an address that this run hadn't yet written; and whether it includes 2, written
-abbrev pub bit0 : ℕ → ℕ
-bit0 m = m % 2
+-- the lent list of words, and that of their marks
+pub record Memory : Type 0 where
+  pub words : List ℕ
+  pub marks : List ℕ
 
-abbrev pub bit1 : ℕ → ℕ
-bit1 m = m / 2 % 2
+abbrev pub lent : List ℕ → List ℕ → Memory
+lent ws ms = record { words = ws; marks = ms }
+
+-- host test 1: memory is a list of 1 to 65,536 words; whether a length is another
+unfoldable pub refusedLength : ℕ → Bool
+refusedLength n = if eqb n 0 then true else ltb 65536 n
+
+-- whether a mark includes 1, read at an address that this run hadn't yet written; and whether it includes 2, written: 1 or 0
+abbrev pub wasRead : ℕ → ℕ
+wasRead m = m % 2
+
+abbrev pub wasWritten : ℕ → ℕ
+wasWritten m = m / 2 % 2
 
 -- a mark after a read: it includes 1, unless it includes 2; a bit that is set stays set, all others keep their value
 unfoldable pub readMark : ℕ → ℕ
-readMark m = if eqb (bit1 m) 1 then m else (if eqb (bit0 m) 1 then m else m + 1)
+readMark m = if eqb (wasWritten m) 1 then m else (if eqb (wasRead m) 1 then m else m + 1)
 
 -- a mark after a write: it includes 2
 unfoldable pub writeMark : ℕ → ℕ
-writeMark m = if eqb (bit1 m) 1 then m else m + 2
+writeMark m = if eqb (wasWritten m) 1 then m else m + 2
 
--- the marks after a read, and after a write, at an address: one that is out of range gets no mark
+-- the marks after a read, and after a write, at an address
 abbrev pub markRead : List ℕ → ℕ → List ℕ
 markRead ms a = set ms a (readMark (getD ms a 0))
 
 abbrev pub markWrite : List ℕ → ℕ → List ℕ
 markWrite ms a = set ms a (writeMark (getD ms a 0))
 
--- what a read answers, and a write: an address at or past the length is out of range
-unfoldable pub readOf : List ℕ → ℕ → Read
-readOf mem a = if ltb a (length mem) then Word (getD mem a 0) else Read.Outside
+-- what an access comes to: its answer, and memory after it
+pub record Accessed (A : Type 0) : Type 0 where
+  pub answer : A
+  pub memory : Memory
 
-unfoldable pub writtenOf : List ℕ → ℕ → Written
-writtenOf mem a = if ltb a (length mem) then Done else Written.Outside
+abbrev pub accessed : {A : Type 0} → A → Memory → Accessed A
+accessed x m = record { answer = x; memory = m }
+
+-- a read gives the word, a write puts one. An address at or past the length is out of range, which stops, and gets no mark.
+unfoldable pub readOf : Memory → ℕ → Accessed Read
+readOf m a =
+    if ltb a (length (m .words))
+    then accessed (Word (getD (m .words) a 0)) (lent (m .words) (markRead (m .marks) a))
+    else accessed (Read.Stopped (OutOfRange a)) m
+
+unfoldable pub writeOf : Memory → ℕ → ℕ → Accessed Write
+writeOf m a v =
+    if ltb a (length (m .words))
+    then accessed Done (lent (set (m .words) a v) (markWrite (m .marks) a))
+    else accessed (Write.Stopped (OutOfRange a)) m
+
+-- a fetch is a read
+abbrev pub fetchOf : Memory → ℕ → Accessed Read
+fetchOf = readOf

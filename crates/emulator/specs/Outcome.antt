@@ -1,7 +1,10 @@
 -- How a step and a run come out, by document 01's numbers (The run; Stops), and what each answer of the code says of it.
 use Prim.Native.Nat.{ℕ}
-use Rattle.emulator.specs.declared.cycle.Stop.{Stop}
-use Rattle.emulator.specs.declared.cycle.Stop.the-variants as stops
+use lib.Dec.{eqb}
+use Rattle.instructions.specs.Choice.{if_then_else_}
+use Rattle.instructions.specs.Decoding.{undecodable}
+use Rattle.emulator.specs.declared.stop.Stop.{Stop}
+use Rattle.emulator.specs.declared.stop.Stop.the-variants as stops
 use Rattle.emulator.specs.declared.cycle.Progress.{Progress}
 use Rattle.emulator.specs.declared.cycle.Progress.the-variants as progress
 use Rattle.emulator.specs.declared.cycle.End.{End}
@@ -17,8 +20,9 @@ pub data Outcome : Type 0 where
   fault : ℕ → ℕ → Outcome
   refused : ℕ → Outcome
 
+-- the stops of the rule words
 abbrev pub stopOf : Stop → Outcome
-stopOf (stops.Undecodable w) = fault 10 w
+stopOf (stops.Undecodable w) = fault undecodable w
 stopOf (stops.OutOfRange a) = fault 11 a
 stopOf (stops.Decimal w) = fault 12 w
 stopOf (stops.Amount a) = fault 13 a
@@ -39,3 +43,14 @@ endOf ends.Halted = halted
 endOf ends.Limit = limit
 endOf (ends.Fault s) = stopOf s
 endOf (ends.Refused n) = refused n
+
+-- a step's outcome, from the steps counted and the end of a run of at most one: it stepped if it was counted, which the limit says too
+abbrev pub uncounted : Outcome → Outcome
+uncounted stepped = stepped
+uncounted halted = halted
+uncounted limit = stepped
+uncounted (fault n v) = fault n v
+uncounted (refused n) = refused n
+
+abbrev pub answeredOf : ℕ → Outcome → Outcome
+answeredOf n o = if eqb n 1 then stepped else uncounted o

@@ -1,14 +1,16 @@
 // The core record: its registers, one step, and the run.
 use crate::cycle::End;
-use crate::cycle::Stop;
 use crate::cycle::turns;
 use crate::memory::clear;
+use crate::memory::refuses_length;
+use crate::stop::Stop;
 use instructions::GPR;
 use instructions::SPR;
 ghost use mathlib.Core.Path.{_≡_};
 ghost use Rattle.emulator.specs.Core.{newCore, readGpr, writeGpr, readSpr, writeSpr, isHalted, isCondSet, setCond};
-ghost use Rattle.emulator.specs.Outcome.{answerOf, endOf};
-ghost use Rattle.emulator.specs.Machine.{turn, refusalOf, stepOf, ran, runOf};
+ghost use Rattle.emulator.specs.Memory.{lent};
+ghost use Rattle.emulator.specs.Outcome.{answerOf, endOf, answeredOf};
+ghost use Rattle.emulator.specs.Machine.{planOf, turn, refusalOf, stepOf, ran, runOf};
 
 pub struct Core {
     pub gprs: [u16; 8],
@@ -40,20 +42,17 @@ pub struct Run {
 
 // The host tests: the number of the first that refuses, or 0.
 fn refusal(memory: &[u16], marks: &[u8]) -> u8
-    ensures { λ r. ⌜ r ≡ refusalOf (now (memory .entry)) (now (marks .entry)) ⌝ }
+    ensures { λ r. ⌜ r ≡ refusalOf (lent (now (memory .entry)) (now (marks .entry))) ⌝ }
 {
-    if memory.len() == 0 {
-        return 1;
-    }
-    if 65536 < memory.len() {
+    if refuses_length(memory.len()) {
         return 1;
     }
     if marks.len() == memory.len() { 0 } else { 2 }
 }
 
-// What a step answers, from the count and the end of at most one turn: one that was counted stepped.
+// What a step answers, from the count and the end of a run of one turn.
 fn answered(steps: u32, end: End) -> Answer
-    ensures { λ r. ⌜ (steps ≡ 1 → r ≡ Answer.Stepped) × ((steps ≡ 1 → ⊥) → (end ≡ End.Limit → ⊥) → answerOf r ≡ endOf end) ⌝ }
+    ensures { λ r. ⌜ answerOf r ≡ answeredOf steps (endOf end) ⌝ }
 {
     if steps == 1 {
         return Answer::Stepped;
@@ -83,8 +82,8 @@ impl Core {
     pub fn read_gpr(self, reg: GPR) -> u16
         ensures { λ r. ⌜ r ≡ readGpr self reg ⌝ }
     {
-        let i = reg.encode() as usize;
-        self.gprs[i]
+        let gprs = self.gprs;
+        execute::read_gpr(&gprs, reg)
     }
 
     pub fn write_gpr(mut self, reg: GPR, value: u16) -> Self
@@ -98,12 +97,7 @@ impl Core {
     pub fn read_spr(self, reg: SPR) -> u16
         ensures { λ r. ⌜ r ≡ readSpr self reg ⌝ }
     {
-        match reg {
-            SPR::IP => self.ip,
-            SPR::RP => self.rp,
-            SPR::SP => self.sp,
-            SPR::EF => self.ef,
-        }
+        execute::read_spr(reg, self.ip, self.rp, self.sp, self.ef)
     }
 
     pub fn write_spr(mut self, reg: SPR, value: u16) -> Self
@@ -154,7 +148,7 @@ impl Core {
 
     // One step: it adds to the marks without clearing them. Where a host test refuses, and where the core is halted, nothing changes.
     pub fn step(self, memory: &mut [u16], marks: &mut [u8]) -> Step
-        ensures { λ r. ⌜ turn (answerOf (r .answer)) (r .core) (now (memory .exit)) (now (marks .exit)) ≡ stepOf self (now (memory .entry)) (now (marks .entry)) ⌝ }
+        ensures { λ r. ⌜ turn (answerOf (r .answer)) (r .core) (lent (now (memory .exit)) (now (marks .exit))) ≡ stepOf planOf self (lent (now (memory .entry)) (now (marks .entry))) ⌝ }
     {
         let refused = refusal(memory, marks);
         if refused != 0 {
@@ -172,7 +166,7 @@ impl Core {
 
     // Runs the core: all marks are set to 0, then steps are made until it halts, the limit is reached, or a step faults.
     pub fn run(self, memory: &mut [u16], marks: &mut [u8], limit: u32) -> Run
-        ensures { λ r. ⌜ ran (endOf (r .end)) (r .steps) (r .core) (now (memory .exit)) (now (marks .exit)) ≡ runOf self (now (memory .entry)) (now (marks .entry)) limit ⌝ }
+        ensures { λ r. ⌜ ran (endOf (r .end)) (r .steps) (r .core) (lent (now (memory .exit)) (now (marks .exit))) ≡ runOf planOf self (lent (now (memory .entry)) (now (marks .entry))) limit ⌝ }
     {
         let refused = refusal(memory, marks);
         if refused != 0 {

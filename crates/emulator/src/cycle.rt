@@ -3,9 +3,11 @@
 use crate::core::Core;
 use crate::core::Run;
 use crate::memory::Read;
-use crate::memory::Written;
+use crate::memory::Write;
+use crate::memory::fetch_word;
 use crate::memory::read_word;
 use crate::memory::write_word;
+use crate::stop::Stop;
 use execute::Effect;
 use execute::execute;
 use instructions::Decoded;
@@ -13,22 +15,9 @@ use instructions::Instruction;
 ghost use mathlib.Core.Path.{_≡_};
 ghost use lib.ListN.{length};
 ghost use Rattle.emulator.specs.Core.{coreOf};
+ghost use Rattle.emulator.specs.Memory.{lent};
 ghost use Rattle.emulator.specs.Outcome.{progressOf, endOf};
-ghost use Rattle.emulator.specs.Machine.{turn, afterOf, accessOf, makeOf, cycleOf, ran, runFrom};
-
-// Why a step stops, with the value that is returned too.
-pub enum Stop {
-    // The word.
-    Undecodable(u16),
-    // The address.
-    OutOfRange(u16),
-    // The word of a decimal instruction.
-    Decimal(u16),
-    // The amount of a shift, or the index of a bit, of 16 or more.
-    Amount(u16),
-    // The word that has no negation, 0x8000.
-    Negation(u16),
-}
+ghost use Rattle.emulator.specs.Machine.{afterOf, accessOf, planOf, turn, makeOf, cycleOf, ran, runFrom};
 
 // How a run ends. `Refused` has the number of the host test.
 pub enum End {
@@ -44,8 +33,8 @@ enum Progress {
     Fault(Stop),
 }
 
-// The special registers after a cycle.
-struct Turn {
+// What a cycle leaves: the special registers, and what it comes to.
+struct Cycled {
     ip: u16,
     rp: u16,
     sp: u16,
@@ -54,10 +43,10 @@ struct Turn {
 }
 
 // The special registers after a cycle that stepped, and after one that faulted.
-fn stepped(ip: u16, rp: u16, sp: u16, ef: u16) -> Turn
+fn stepped(ip: u16, rp: u16, sp: u16, ef: u16) -> Cycled
     ensures { λ r. ⌜ r ≡ record { ip = ip; rp = rp; sp = sp; ef = ef; progress = Progress.Stepped } ⌝ }
 {
-    Turn {
+    Cycled {
         ip,
         rp,
         sp,
@@ -66,10 +55,10 @@ fn stepped(ip: u16, rp: u16, sp: u16, ef: u16) -> Turn
     }
 }
 
-fn faulted(ip: u16, rp: u16, sp: u16, ef: u16, stop: Stop) -> Turn
+fn faulted(ip: u16, rp: u16, sp: u16, ef: u16, stop: Stop) -> Cycled
     ensures { λ r. ⌜ r ≡ record { ip = ip; rp = rp; sp = sp; ef = ef; progress = Progress.Fault stop } ⌝ }
 {
-    Turn {
+    Cycled {
         ip,
         rp,
         sp,
@@ -88,9 +77,9 @@ fn apply(
     ef: u16,
     memory: &mut [u16],
     marks: &mut [u8],
-) -> Turn
+) -> Cycled
     requires { ⌜ length (now marks) ≡ length (now memory) ⌝ }
-    ensures { λ r. ⌜ turn (progressOf (r .progress)) (coreOf (now (gprs .exit)) (r .ip) (r .rp) (r .sp) (r .ef)) (now (memory .exit)) (now (marks .exit)) ≡ makeOf (afterOf (coreOf (now (gprs .entry)) ip rp sp ef) effect) (accessOf effect) (now (memory .entry)) (now (marks .entry)) ⌝ }
+    ensures { λ r. ⌜ turn (progressOf (r .progress)) (coreOf (now (gprs .exit)) (r .ip) (r .rp) (r .sp) (r .ef)) (lent (now (memory .exit)) (now (marks .exit))) ≡ makeOf (afterOf (coreOf (now (gprs .entry)) ip rp sp ef) effect) (accessOf effect) (lent (now (memory .entry)) (now (marks .entry))) ⌝ }
 {
     match effect {
         Effect::None => stepped(ip, rp, sp, ef),
@@ -114,7 +103,7 @@ fn apply(
                 gprs[i] = word;
                 stepped(ip, rp, execute::add(sp, raise), ef)
             }
-            Read::Outside => faulted(ip, rp, sp, ef, Stop::OutOfRange(address)),
+            Read::Stopped(stop) => faulted(ip, rp, sp, ef, stop),
         },
         Effect::Store {
             address,
@@ -123,8 +112,8 @@ fn apply(
         } => {
             let lowered = execute::sub(sp, lower);
             match write_word(memory, marks, address, value) {
-                Written::Done => stepped(ip, rp, lowered, ef),
-                Written::Outside => faulted(ip, rp, lowered, ef, Stop::OutOfRange(address)),
+                Write::Done => stepped(ip, rp, lowered, ef),
+                Write::Stopped(stop) => faulted(ip, rp, lowered, ef, stop),
             }
         }
         Effect::Decimal(word) => faulted(ip, rp, sp, ef, Stop::Decimal(word)),
@@ -142,12 +131,12 @@ fn cycle(
     ef: u16,
     memory: &mut [u16],
     marks: &mut [u8],
-) -> Turn
+) -> Cycled
     requires { ⌜ length (now marks) ≡ length (now memory) ⌝ }
-    ensures { λ r. ⌜ turn (progressOf (r .progress)) (coreOf (now (gprs .exit)) (r .ip) (r .rp) (r .sp) (r .ef)) (now (memory .exit)) (now (marks .exit)) ≡ cycleOf (coreOf (now (gprs .entry)) ip rp sp ef) (now (memory .entry)) (now (marks .entry)) ⌝ }
+    ensures { λ r. ⌜ turn (progressOf (r .progress)) (coreOf (now (gprs .exit)) (r .ip) (r .rp) (r .sp) (r .ef)) (lent (now (memory .exit)) (now (marks .exit))) ≡ cycleOf planOf (coreOf (now (gprs .entry)) ip rp sp ef) (lent (now (memory .entry)) (now (marks .entry))) ⌝ }
 {
-    match read_word(memory, marks, ip) {
-        Read::Outside => faulted(ip, rp, sp, ef, Stop::OutOfRange(ip)),
+    match fetch_word(memory, marks, ip) {
+        Read::Stopped(stop) => faulted(ip, rp, sp, ef, stop),
         Read::Word(word) => {
             let next = execute::add(ip, 1);
             match Instruction::decode(word) {
@@ -164,7 +153,7 @@ fn cycle(
 // Cycles up to the limit: each turn tests halt first, then the limit. A cycle that faults isn't counted.
 pub fn turns(core: Core, memory: &mut [u16], marks: &mut [u8], limit: u32) -> Run
     requires { ⌜ length (now marks) ≡ length (now memory) ⌝ }
-    ensures { λ r. ⌜ ran (endOf (r .end)) (r .steps) (r .core) (now (memory .exit)) (now (marks .exit)) ≡ runFrom limit 0 core (now (memory .entry)) (now (marks .entry)) ⌝ }
+    ensures { λ r. ⌜ ran (endOf (r .end)) (r .steps) (r .core) (lent (now (memory .exit)) (now (marks .exit))) ≡ runFrom planOf limit 0 core (lent (now (memory .entry)) (now (marks .entry))) ⌝ }
 {
     let mut gprs = core.gprs;
     let mut ip = core.ip;

@@ -3,12 +3,15 @@ mod core;
 mod cycle;
 mod lent;
 mod memory;
+mod stop;
 
 pub use core::Answer;
 pub use core::Core;
 pub use core::Run;
 pub use core::Step;
 pub use cycle::End;
-pub use cycle::Stop;
 pub use lent::step_by_lent;
 pub use lent::step_lent;
+pub use memory::refuses_length;
+pub use stop::Fault;
+pub use stop::Stop;

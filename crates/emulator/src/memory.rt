@@ -1,18 +1,29 @@
 // Access to lent memory, with marks.
+use crate::stop::Stop;
 ghost use mathlib.Core.Path.{_≡_};
-ghost use lib.ListN.{length, set, replicate};
-ghost use Rattle.emulator.specs.Memory.{readMark, writeMark, markRead, markWrite, readOf, writtenOf};
+ghost use lib.ListN.{length, replicate};
+ghost use Rattle.emulator.specs.Memory.{refusedLength, readMark, writeMark, lent, accessed, readOf, fetchOf, writeOf};
 
 // What a read finds.
 pub enum Read {
     Word(u16),
-    Outside,
+    Stopped(Stop),
 }
 
-// Whether a write was in range.
-pub enum Written {
+// What a write comes to.
+pub enum Write {
     Done,
-    Outside,
+    Stopped(Stop),
+}
+
+// Host test 1: whether memory has no word, or more than 65,536.
+pub fn refuses_length(words: usize) -> bool
+    ensures { λ r. ⌜ r ≡ refusedLength words ⌝ }
+{
+    if words == 0 {
+        return true;
+    }
+    65536 < words
 }
 
 // A mark after a read: bit 0 is set, unless bit 1 is.
@@ -35,31 +46,36 @@ fn write_mark(m: u8) -> u8
 // The word at an address, which is marked as read.
 pub fn read_word(memory: &[u16], marks: &mut [u8], address: u16) -> Read
     requires { ⌜ length (now marks) ≡ length (now memory) ⌝ }
-    ensures { λ r. ⌜ r ≡ readOf (now (memory .entry)) address ⌝ }
-    ensures { λ r. ⌜ now (marks .exit) ≡ markRead (now (marks .entry)) address ⌝ }
+    ensures { λ r. ⌜ accessed r (lent (now (memory .entry)) (now (marks .exit))) ≡ readOf (lent (now (memory .entry)) (now (marks .entry))) address ⌝ }
 {
     let at = address as usize;
     if memory.len() <= at {
-        return Read::Outside;
+        return Read::Stopped(Stop::OutOfRange(address));
     }
     marks[at] = read_mark(marks[at]);
     Read::Word(memory[at])
 }
 
-// Puts a word at an address, which is marked as written.
-pub fn write_word(memory: &mut [u16], marks: &mut [u8], address: u16, value: u16) -> Written
+// The word at an address, read to be executed.
+pub fn fetch_word(memory: &[u16], marks: &mut [u8], address: u16) -> Read
     requires { ⌜ length (now marks) ≡ length (now memory) ⌝ }
-    ensures { λ r. ⌜ r ≡ writtenOf (now (memory .entry)) address ⌝ }
-    ensures { λ r. ⌜ now (memory .exit) ≡ set (now (memory .entry)) address value ⌝ }
-    ensures { λ r. ⌜ now (marks .exit) ≡ markWrite (now (marks .entry)) address ⌝ }
+    ensures { λ r. ⌜ accessed r (lent (now (memory .entry)) (now (marks .exit))) ≡ fetchOf (lent (now (memory .entry)) (now (marks .entry))) address ⌝ }
+{
+    read_word(memory, marks, address)
+}
+
+// Puts a word at an address, which is marked as written.
+pub fn write_word(memory: &mut [u16], marks: &mut [u8], address: u16, value: u16) -> Write
+    requires { ⌜ length (now marks) ≡ length (now memory) ⌝ }
+    ensures { λ r. ⌜ accessed r (lent (now (memory .exit)) (now (marks .exit))) ≡ writeOf (lent (now (memory .entry)) (now (marks .entry))) address value ⌝ }
 {
     let at = address as usize;
     if memory.len() <= at {
-        return Written::Outside;
+        return Write::Stopped(Stop::OutOfRange(address));
     }
     marks[at] = write_mark(marks[at]);
     memory[at] = value;
-    Written::Done
+    Write::Done
 }
 
 // Sets all marks to 0.

@@ -1,8 +1,8 @@
--- `decodeOf` is the inverse of `encodeOf`, and 6,118 words decode.
+-- `decodeOf` is the inverse of `encodeOf`.
 -- Assumes nothing.
-use mathlib.Core.Path.{_≡_, _∙_, refl, sym, ap, subst}
-use mathlib.Core.Bool.{Bool, true, false, _&&_}
-use Prim.Native.Nat.{ℕ, zero, suc, _+_, _*_, _/_, _%_, _<_}
+use mathlib.Core.Path.{_≡_, _∙_, refl, subst}
+use mathlib.Core.Bool.{Bool, true}
+use Prim.Native.Nat.{ℕ, _+_, _*_, _/_, _%_, _<_}
 use native.Mathlib.Omega.{arith}
 use lib.Dec.{T, eqb, ltb, eqb→eq}
 use Rattle.instructions.specs.Encoding.{encodeOf}
@@ -15,15 +15,15 @@ use Rattle.instructions.specs.declared.ins.Instruction.the-variants.{Nop, Hlt, 
 use borrow.Author.Tests.{lt-ltb, le-ltb, ltb-true}
 use Rattle.instructions.specs.Decoding.{decodeOf, decodeBytes}
 use Rattle.instructions.specs.declared.ins.Instruction.{Instruction}
-use Rattle.instructions.specs.Answer.{Answer, gives, stops}
-use Rattle.encoding_laws.specs.Count.{total, one, decodable}
+use Rattle.instructions.specs.declared.ins.encoding.Decoded.{Decoded}
+use Rattle.instructions.specs.declared.ins.encoding.Decoded.the-variants.{Ins, Undecodable}
 use Rattle.encoding_laws.specs.Inverse.{Inverse}
-use Rattle.encoding_laws.proofs.Table.{every, at, by-rows, total-same, gprs, sprs, drs, by-gprs, by-sprs, by-drs}
+use Rattle.encoding_laws.proofs.Table.{every, at, gprs, sprs, drs, by-gprs, by-sprs, by-drs}
 
 -- the answer leads back to the word
-abbrev back : ℕ → Answer Instruction → Bool
-back w (gives i) = eqb (encodeOf i) w
-back w (stops n v) = eqb n 10 && eqb v w
+abbrev back : ℕ → Decoded → Bool
+back w (Ins i) = eqb (encodeOf i) w
+back w (Undecodable v) = eqb v w
 
 abbrev backAt : ℕ → ℕ → Bool
 backAt h l = back (h * 256 + l) (decodeBytes (h * 256 + l) h l)
@@ -42,38 +42,20 @@ back-word w h =
     subst (λ (v : ℕ). T (back v (decodeBytes v (w / 256) (w % 256)))) e (back-at (w / 256) (w % 256) (omega arith) (omega arith))
 
 -- a word that decodes is the encoding of what it decodes to
-encode-decode : (w : ℕ) → w < 65536 → (i : Instruction) → decodeOf w ≡ gives i → encodeOf i ≡ w
-encode-decode w h i e = eqb→eq (encodeOf i) w (subst (λ (d : Answer Instruction). T (back w d)) e (back-word w h))
+encode-decode : (w : ℕ) → w < 65536 → (i : Instruction) → decodeOf w ≡ Ins i → encodeOf i ≡ w
+encode-decode w h i e = eqb→eq (encodeOf i) w (subst (λ (d : Decoded). T (back w d)) e (back-word w h))
 
-both : (a b : Bool) → T (a && b) → T a × T b
-both true b t = (tt, t)
-both false b t = absurd t
-
--- a word that does not is stop 10 with the word
-undecodable : (w : ℕ) → w < 65536 → (n v : ℕ) → decodeOf w ≡ stops n v → (n ≡ 10) × (v ≡ w)
-undecodable w h n v e =
-    let t : T (eqb n 10) × T (eqb v w) = both (eqb n 10) (eqb v w) (subst (λ (d : Answer Instruction). T (back w d)) e (back-word w h)) in
-    (eqb→eq n 10 (t .0), eqb→eq v w (t .1))
+-- a word that does not is undecodable, with that word
+undecodable : (w : ℕ) → w < 65536 → (v : ℕ) → decodeOf w ≡ Undecodable v → v ≡ w
+undecodable w h v e = eqb→eq v w (subst (λ (d : Decoded). T (back w d)) e (back-word w h))
 
 -- the upper and the lower byte of a word
-bytes : (h l w : ℕ) → w ≡ h * 256 + l → l < 256 → decodeOf w ≡ decodeBytes w h l
+pub bytes : (h l w : ℕ) → w ≡ h * 256 + l → l < 256 → decodeOf w ≡ decodeBytes w h l
 unfolding decodeOf
 bytes h l w e s =
     let eh : w / 256 ≡ h = omega arith in
     let el : w % 256 ≡ l = omega arith in
     rw (eh, el)
-
-by-bytes : total (λ h. total (λ l. one (decodeBytes (h * 256 + l) h l)) 256) 256 ≡ 6118
-by-bytes = refl
-
--- of the 65,536 words, counted by one computed test
-pub decodable-words : decodable (256 * 256) ≡ 6118
-unfolding decodable
-decodable-words =
-    by-rows (λ w. one (decodeOf w)) 256 256 ∙
-    total-same (λ h. total (λ l. one (decodeOf (h * 256 + l))) 256) (λ h. total (λ l. one (decodeBytes (h * 256 + l) h l)) 256) 256
-    (λ h _. total-same (λ l. one (decodeOf (h * 256 + l))) (λ l. one (decodeBytes (h * 256 + l) h l)) 256 (λ l s. ap one (bytes h l (h * 256 + l) refl s))) ∙
-    by-bytes
 
 small : (r : GeneralPurposeRegister) → gprNumber r < 8
 small r = ltb-true _ _ (by-gprs (λ r. ltb (gprNumber r) 8) (λ r. true) refl r)
@@ -81,41 +63,41 @@ small r = ltb-true _ _ (by-gprs (λ r. ltb (gprNumber r) 8) (λ r. true) refl r)
 number : (r : GeneralPurposeRegister) → gprAt (gprNumber r) ≡ r
 number r = by-gprs (λ r. gprAt (gprNumber r)) (λ r. r) refl r
 
-ones : (k : GeneralPurposeRegister → Instruction) → gprs (λ q. decodeOf (encodeOf (k q))) ≡ gprs (λ q. gives (k q)) → (q : GeneralPurposeRegister) → decodeOf (encodeOf (k q)) ≡ gives (k q)
-ones k e = by-gprs (λ q. decodeOf (encodeOf (k q))) (λ q. gives (k q)) e
+ones : (k : GeneralPurposeRegister → Instruction) → gprs (λ q. decodeOf (encodeOf (k q))) ≡ gprs (λ q. Ins (k q)) → (q : GeneralPurposeRegister) → decodeOf (encodeOf (k q)) ≡ Ins (k q)
+ones k e = by-gprs (λ q. decodeOf (encodeOf (k q))) (λ q. Ins (k q)) e
 
-pairs-gg : (k : GeneralPurposeRegister → GeneralPurposeRegister → Instruction) → gprs (λ p. gprs (λ q. decodeOf (encodeOf (k p q)))) ≡ gprs (λ p. gprs (λ q. gives (k p q))) → (p : GeneralPurposeRegister) (q : GeneralPurposeRegister) → decodeOf (encodeOf (k p q)) ≡ gives (k p q)
-pairs-gg k e p = by-gprs (λ q. decodeOf (encodeOf (k p q))) (λ q. gives (k p q)) (by-gprs (λ p. gprs (λ q. decodeOf (encodeOf (k p q)))) (λ p. gprs (λ q. gives (k p q))) e p)
+pairs-gg : (k : GeneralPurposeRegister → GeneralPurposeRegister → Instruction) → gprs (λ p. gprs (λ q. decodeOf (encodeOf (k p q)))) ≡ gprs (λ p. gprs (λ q. Ins (k p q))) → (p : GeneralPurposeRegister) (q : GeneralPurposeRegister) → decodeOf (encodeOf (k p q)) ≡ Ins (k p q)
+pairs-gg k e p = by-gprs (λ q. decodeOf (encodeOf (k p q))) (λ q. Ins (k p q)) (by-gprs (λ p. gprs (λ q. decodeOf (encodeOf (k p q)))) (λ p. gprs (λ q. Ins (k p q))) e p)
 
-pairs-dd : (k : DecimalRegister → DecimalRegister → Instruction) → drs (λ p. drs (λ q. decodeOf (encodeOf (k p q)))) ≡ drs (λ p. drs (λ q. gives (k p q))) → (p : DecimalRegister) (q : DecimalRegister) → decodeOf (encodeOf (k p q)) ≡ gives (k p q)
-pairs-dd k e p = by-drs (λ q. decodeOf (encodeOf (k p q))) (λ q. gives (k p q)) (by-drs (λ p. drs (λ q. decodeOf (encodeOf (k p q)))) (λ p. drs (λ q. gives (k p q))) e p)
+pairs-dd : (k : DecimalRegister → DecimalRegister → Instruction) → drs (λ p. drs (λ q. decodeOf (encodeOf (k p q)))) ≡ drs (λ p. drs (λ q. Ins (k p q))) → (p : DecimalRegister) (q : DecimalRegister) → decodeOf (encodeOf (k p q)) ≡ Ins (k p q)
+pairs-dd k e p = by-drs (λ q. decodeOf (encodeOf (k p q))) (λ q. Ins (k p q)) (by-drs (λ p. drs (λ q. decodeOf (encodeOf (k p q)))) (λ p. drs (λ q. Ins (k p q))) e p)
 
-pairs-dg : (k : DecimalRegister → GeneralPurposeRegister → Instruction) → drs (λ p. gprs (λ q. decodeOf (encodeOf (k p q)))) ≡ drs (λ p. gprs (λ q. gives (k p q))) → (p : DecimalRegister) (q : GeneralPurposeRegister) → decodeOf (encodeOf (k p q)) ≡ gives (k p q)
-pairs-dg k e p = by-gprs (λ q. decodeOf (encodeOf (k p q))) (λ q. gives (k p q)) (by-drs (λ p. gprs (λ q. decodeOf (encodeOf (k p q)))) (λ p. gprs (λ q. gives (k p q))) e p)
+pairs-dg : (k : DecimalRegister → GeneralPurposeRegister → Instruction) → drs (λ p. gprs (λ q. decodeOf (encodeOf (k p q)))) ≡ drs (λ p. gprs (λ q. Ins (k p q))) → (p : DecimalRegister) (q : GeneralPurposeRegister) → decodeOf (encodeOf (k p q)) ≡ Ins (k p q)
+pairs-dg k e p = by-gprs (λ q. decodeOf (encodeOf (k p q))) (λ q. Ins (k p q)) (by-drs (λ p. gprs (λ q. decodeOf (encodeOf (k p q)))) (λ p. gprs (λ q. Ins (k p q))) e p)
 
-pairs-gd : (k : GeneralPurposeRegister → DecimalRegister → Instruction) → gprs (λ p. drs (λ q. decodeOf (encodeOf (k p q)))) ≡ gprs (λ p. drs (λ q. gives (k p q))) → (p : GeneralPurposeRegister) (q : DecimalRegister) → decodeOf (encodeOf (k p q)) ≡ gives (k p q)
-pairs-gd k e p = by-drs (λ q. decodeOf (encodeOf (k p q))) (λ q. gives (k p q)) (by-gprs (λ p. drs (λ q. decodeOf (encodeOf (k p q)))) (λ p. drs (λ q. gives (k p q))) e p)
+pairs-gd : (k : GeneralPurposeRegister → DecimalRegister → Instruction) → gprs (λ p. drs (λ q. decodeOf (encodeOf (k p q)))) ≡ gprs (λ p. drs (λ q. Ins (k p q))) → (p : GeneralPurposeRegister) (q : DecimalRegister) → decodeOf (encodeOf (k p q)) ≡ Ins (k p q)
+pairs-gd k e p = by-drs (λ q. decodeOf (encodeOf (k p q))) (λ q. Ins (k p q)) (by-gprs (λ p. drs (λ q. decodeOf (encodeOf (k p q)))) (λ p. drs (λ q. Ins (k p q))) e p)
 
-pairs-gs : (k : GeneralPurposeRegister → SpecialPurposeRegister → Instruction) → gprs (λ p. sprs (λ q. decodeOf (encodeOf (k p q)))) ≡ gprs (λ p. sprs (λ q. gives (k p q))) → (p : GeneralPurposeRegister) (q : SpecialPurposeRegister) → decodeOf (encodeOf (k p q)) ≡ gives (k p q)
-pairs-gs k e p = by-sprs (λ q. decodeOf (encodeOf (k p q))) (λ q. gives (k p q)) (by-gprs (λ p. sprs (λ q. decodeOf (encodeOf (k p q)))) (λ p. sprs (λ q. gives (k p q))) e p)
+pairs-gs : (k : GeneralPurposeRegister → SpecialPurposeRegister → Instruction) → gprs (λ p. sprs (λ q. decodeOf (encodeOf (k p q)))) ≡ gprs (λ p. sprs (λ q. Ins (k p q))) → (p : GeneralPurposeRegister) (q : SpecialPurposeRegister) → decodeOf (encodeOf (k p q)) ≡ Ins (k p q)
+pairs-gs k e p = by-sprs (λ q. decodeOf (encodeOf (k p q))) (λ q. Ins (k p q)) (by-gprs (λ p. sprs (λ q. decodeOf (encodeOf (k p q)))) (λ p. sprs (λ q. Ins (k p q))) e p)
 
-pairs-sg : (k : SpecialPurposeRegister → GeneralPurposeRegister → Instruction) → sprs (λ p. gprs (λ q. decodeOf (encodeOf (k p q)))) ≡ sprs (λ p. gprs (λ q. gives (k p q))) → (p : SpecialPurposeRegister) (q : GeneralPurposeRegister) → decodeOf (encodeOf (k p q)) ≡ gives (k p q)
-pairs-sg k e p = by-gprs (λ q. decodeOf (encodeOf (k p q))) (λ q. gives (k p q)) (by-sprs (λ p. gprs (λ q. decodeOf (encodeOf (k p q)))) (λ p. gprs (λ q. gives (k p q))) e p)
+pairs-sg : (k : SpecialPurposeRegister → GeneralPurposeRegister → Instruction) → sprs (λ p. gprs (λ q. decodeOf (encodeOf (k p q)))) ≡ sprs (λ p. gprs (λ q. Ins (k p q))) → (p : SpecialPurposeRegister) (q : GeneralPurposeRegister) → decodeOf (encodeOf (k p q)) ≡ Ins (k p q)
+pairs-sg k e p = by-gprs (λ q. decodeOf (encodeOf (k p q))) (λ q. Ins (k p q)) (by-sprs (λ p. gprs (λ q. decodeOf (encodeOf (k p q)))) (λ p. gprs (λ q. Ins (k p q))) e p)
 
-putl : (r : GeneralPurposeRegister) (imm : ℕ) → imm < 256 → decodeOf (encodeOf (Putl r imm)) ≡ gives (Putl r imm)
+putl : (r : GeneralPurposeRegister) (imm : ℕ) → imm < 256 → decodeOf (encodeOf (Putl r imm)) ≡ Ins (Putl r imm)
 putl r imm h =
     bytes (0x10 + gprNumber r) imm _ (omega arith) h ∙
-    by-gprs (λ r. decodeBytes (encodeOf (Putl r imm)) (0x10 + gprNumber r) imm) (λ r. gives (Putl r imm)) refl r
+    by-gprs (λ r. decodeBytes (encodeOf (Putl r imm)) (0x10 + gprNumber r) imm) (λ r. Ins (Putl r imm)) refl r
 
-puth : (r : GeneralPurposeRegister) (imm : ℕ) → imm < 256 → decodeOf (encodeOf (Puth r imm)) ≡ gives (Puth r imm)
+puth : (r : GeneralPurposeRegister) (imm : ℕ) → imm < 256 → decodeOf (encodeOf (Puth r imm)) ≡ Ins (Puth r imm)
 puth r imm h =
     bytes (0x18 + gprNumber r) imm _ (omega arith) h ∙
-    by-gprs (λ r. decodeBytes (encodeOf (Puth r imm)) (0x18 + gprNumber r) imm) (λ r. gives (Puth r imm)) refl r
+    by-gprs (λ r. decodeBytes (encodeOf (Puth r imm)) (0x18 + gprNumber r) imm) (λ r. Ins (Puth r imm)) refl r
 
 high : (r : GeneralPurposeRegister) → gprAt (8 + gprNumber r) ≡ r
 high r = by-gprs (λ r. gprAt (8 + gprNumber r)) (λ r. r) refl r
 
-spread : (r : GeneralPurposeRegister) (offset : ℕ) → decodeOf (encodeOf (Spread r offset)) ≡ gives (Spread r (offset % 16))
+spread : (r : GeneralPurposeRegister) (offset : ℕ) → decodeOf (encodeOf (Spread r offset)) ≡ Ins (Spread r (offset % 16))
 spread r offset =
     let s = small r in
     let lo : ℕ = gprNumber r * 16 + offset % 16 in
@@ -124,7 +106,7 @@ spread r offset =
     bytes 0x30 lo (encodeOf (Spread r offset)) (omega arith) (omega arith) ∙
     simp (lt-ltb lo 0x80 (omega arith), ep, eo, number r)
 
-spwrite : (r : GeneralPurposeRegister) (offset : ℕ) → decodeOf (encodeOf (Spwrite offset r)) ≡ gives (Spwrite (offset % 16) r)
+spwrite : (r : GeneralPurposeRegister) (offset : ℕ) → decodeOf (encodeOf (Spwrite offset r)) ≡ Ins (Spwrite (offset % 16) r)
 spwrite r offset =
     let s = small r in
     let lo : ℕ = 0x80 + gprNumber r * 16 + offset % 16 in
@@ -134,7 +116,7 @@ spwrite r offset =
     simp (le-ltb lo 0x80 (omega arith), ep, eo, high r)
 
 -- an instruction is what its word decodes to, but for a spread or spwrite offset above 15
-decode-encode : (i : Instruction) → byteOf i < 256 → decodeOf (encodeOf i) ≡ gives (reduced i)
+decode-encode : (i : Instruction) → byteOf i < 256 → decodeOf (encodeOf i) ≡ Ins (reduced i)
 unfolding decodeOf
 decode-encode Nop h = refl
 decode-encode Hlt h = refl

@@ -1,15 +1,15 @@
 -- Facts about finitely many cases, proved by one test that antt computes.
 -- Assumes nothing.
-use mathlib.Core.Path.{_≡_, _∙_, refl, ap, ap₂, subst, sym}
+use mathlib.Core.Path.{_≡_, _∙_, refl, ap, subst, sym}
 use mathlib.Core.Bool.{Bool, true, false}
 use mathlib.Core.Logic.{⊎-elim}
 use mathlib.Core.List.{List, [], _∷_}
 use Prim.Native.Nat.{ℕ, zero, suc, _+_, _*_, _<_}
-use native.Mathlib.Nat.{not-suc-le-zero, le-of-suc-le-suc, eq-or-lt-of-le, add-zero, zero-add, add-suc, zero-mul, suc-mul}
+use native.Mathlib.Nat.{not-suc-le-zero, le-of-suc-le-suc, eq-or-lt-of-le, add-zero, add-suc, zero-mul, suc-mul}
 use native.Mathlib.Omega.{arith}
 use lib.Dec.{T}
 use lib.ListN.{getD}
-use Rattle.encoding_laws.specs.Count.{total}
+use Rattle.encoding_laws.specs.Count.{over}
 use Rattle.instructions.specs.declared.reg.GeneralPurposeRegister.{GeneralPurposeRegister}
 use Rattle.instructions.specs.declared.reg.GeneralPurposeRegister.the-variants.{R0, R1, R2, R3, R4, R5, R6, R7}
 use Rattle.instructions.specs.declared.reg.SpecialPurposeRegister.{SpecialPurposeRegister}
@@ -64,16 +64,17 @@ module _ {A : Type 0} where
   by-drs f g e D2 = ap (λ (l : List A). getD l 2 (f D0)) e
   by-drs f g e D3 = ap (λ (l : List A). getD l 3 (f D0)) e
 
--- a sum over n numbers more
-more : (f : ℕ → ℕ) (a n : ℕ) → total f (a + n) ≡ total (λ k. f (a + k)) n + total f a
-more f a zero = simp (add-zero, zero-add)
-more f a (suc n) = rw (add-suc a n, more f a n) (omega arith)
+module _ {A : Type 0} where
+  -- n numbers more
+  further : (f : ℕ → A → A) (a n : ℕ) (x : A) → over f (a + n) x ≡ over (λ k. f (a + k)) n (over f a x)
+  further f a zero x = rw (add-zero a)
+  further f a (suc n) x = rw (add-suc a n, further f a n x)
 
--- a sum over h * n numbers, by rows of n
-pub by-rows : (f : ℕ → ℕ) (n h : ℕ) → total f (h * n) ≡ total (λ r. total (λ k. f (r * n + k)) n) h
-by-rows f n zero = rw (zero-mul n)
-by-rows f n (suc h) = rw (suc-mul h n, more f (h * n) n, by-rows f n h)
+  -- h * n numbers, by rows of n
+  pub by-rows : (f : ℕ → A → A) (n h : ℕ) (x : A) → over f (h * n) x ≡ over (λ r. over (λ k. f (r * n + k)) n) h x
+  by-rows f n zero x = rw (zero-mul n)
+  by-rows f n (suc h) x = rw (suc-mul h n, further f (h * n) n x, by-rows f n h x)
 
-pub total-same : (f g : ℕ → ℕ) (n : ℕ) → ((k : ℕ) → k < n → f k ≡ g k) → total f n ≡ total g n
-total-same f g zero e = refl
-total-same f g (suc n) e = ap₂ _+_ (e n (omega arith)) (total-same f g n (λ k h. e k (omega arith)))
+  pub over-same : (f g : ℕ → A → A) (n : ℕ) (x : A) → ((k : ℕ) → k < n → (y : A) → f k y ≡ g k y) → over f n x ≡ over g n x
+  over-same f g zero x e = refl
+  over-same f g (suc n) x e = e n (omega arith) (over f n x) ∙ ap (g n) (over-same f g n x (λ k h. e k (omega arith)))

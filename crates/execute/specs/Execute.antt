@@ -22,13 +22,13 @@ toSpr RP v = Rp v
 toSpr SP v = Sp v
 toSpr EF v = Ef v
 
+-- the condition is set or cleared; no other bit of ef is touched
+abbrev pub toCond : Registers → Bool → Effect
+toCond r b = Ef (withCond (r .ef) b)
+
 -- the effect, for an amount below 16; stop 13 for any other
 abbrev pub amountBelow16 : ℕ → Effect → Effect
 amountBelow16 amount e = if ltb amount 16 then e else Amount amount
-
--- the condition is set or cleared; no other bit of ef is touched
-abbrev pub setCond : Registers → Bool → Effect
-setCond r b = Ef (withCond (r .ef) b)
 
 -- the effect, only if the condition holds
 abbrev pub ifCond : Registers → Effect → Effect
@@ -85,12 +85,12 @@ executeOf r (Bitset reg idx) w = amountBelow16 (gpr r idx) (Gpr reg (withBit (gp
 -- neg is 65,536 minus the register, modulo 65,536; of 0 it is 0, of 0x8000 it is stop 14
 executeOf r (Neg reg) w = if eqb (gpr r reg) 0x8000 then Negation 0x8000 else Gpr reg ((65536 - gpr r reg) % 65536)
 -- inv flips the condition
-executeOf r Inv w = setCond r (not (condOf (r .ef)))
+executeOf r Inv w = toCond r (not (condOf (r .ef)))
 -- eqz, eq, gt, gteq set it if reg is 0, left equals right, left is greater, left is greater or equal, unsigned, and clear it otherwise
-executeOf r (Eqz reg) w = setCond r (eqb (gpr r reg) 0)
-executeOf r (Eq left right) w = setCond r (eqb (gpr r left) (gpr r right))
-executeOf r (Gt left right) w = setCond r (ltb (gpr r right) (gpr r left))
-executeOf r (Gteq left right) w = setCond r (leb (gpr r right) (gpr r left))
+executeOf r (Eqz reg) w = toCond r (eqb (gpr r reg) 0)
+executeOf r (Eq left right) w = toCond r (eqb (gpr r left) (gpr r right))
+executeOf r (Gt left right) w = toCond r (ltb (gpr r right) (gpr r left))
+executeOf r (Gteq left right) w = toCond r (leb (gpr r right) (gpr r left))
 -- jmpoff adds its byte read as -128..127 to the advanced ip; cjmpoff and cjmp act only if the condition holds
 executeOf r (Jmpoff offset) w = Ip (jumpedOf (r .ip) offset)
 executeOf r (Cjmpoff offset) w = ifCond r (Ip (jumpedOf (r .ip) offset))

@@ -222,7 +222,7 @@ pub fn read_gpr(gprs: &[u16; 8], reg: GPR) -> u16
 }
 
 // The word in a special register, of the four.
-fn read_spr(reg: SPR, ip: u16, rp: u16, sp: u16, ef: u16) -> u16
+pub fn read_spr(reg: SPR, ip: u16, rp: u16, sp: u16, ef: u16) -> u16
     ensures { λ r. ⌜ r ≡ sprOf ip rp sp ef reg ⌝ }
 {
     match reg {

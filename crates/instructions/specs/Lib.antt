@@ -1,4 +1,4 @@
-pub mod Answer
+pub mod Bounded
 pub mod Choice
 pub mod Decoding
 pub mod Encoding

@@ -1,9 +1,8 @@
 -- The registers' numbers (document 01, Records).
 use Prim.Native.Nat.{ℕ, _%_}
-use mathlib.Core.List.{List, [], _∷_}
+use mathlib.Core.List.{[], _∷_}
 use lib.Dec.{ltb}
 use lib.ListN.{getD}
-use Rattle.instructions.specs.Choice.{if_then_else_}
 use Rattle.instructions.specs.Choice.{if_then_else_}
 use Rattle.instructions.specs.declared.reg.GeneralPurposeRegister.{GeneralPurposeRegister}
 use Rattle.instructions.specs.declared.reg.GeneralPurposeRegister.the-variants.{R0, R1, R2, R3, R4, R5, R6, R7}

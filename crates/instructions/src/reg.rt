@@ -1,6 +1,6 @@
 // The registers, and the numbers that stand for them in a word.
 ghost use mathlib.Core.Path.{_≡_};
-ghost use Prim.Native.Nat.{_<_};
+ghost use Rattle.instructions.specs.Bounded.{Bounded};
 ghost use Rattle.instructions.specs.Reg.{gprNumber, gprAt, gprDecodeOf, sprNumber, sprAt, sprDecodeOf, drNumber, drAt, drDecodeOf};
 
 pub enum GeneralPurposeRegister {
@@ -55,13 +55,13 @@ pub enum DecodedDR {
 impl GeneralPurposeRegister {
     // The register's number, as `r1` has 1.
     pub fn number(self) -> u16
-        ensures { λ r. ⌜ (r ≡ gprNumber self) × (r < 8) ⌝ }
+        ensures { λ r. ⌜ Bounded r (gprNumber self) 8 ⌝ }
     {
         self.encode()
     }
 
     pub fn encode(self) -> u16
-        ensures { λ r. ⌜ (r ≡ gprNumber self) × (r < 8) ⌝ }
+        ensures { λ r. ⌜ Bounded r (gprNumber self) 8 ⌝ }
     {
         match self {
             GPR::R0 => 0,
@@ -79,14 +79,14 @@ impl GeneralPurposeRegister {
         ensures { λ r. ⌜ r ≡ gprDecodeOf bits ⌝ }
     {
         if bits < 8 {
-            DecodedGPR::Register(GPR::from_low_bits(bits))
+            DecodedGPR::Register(GPR::from_low_bits(bits as u8))
         } else {
             DecodedGPR::Nothing
         }
     }
 
     // The register whose number is in the lowest 3 bits.
-    pub fn from_low_bits(bits: u16) -> GPR
+    pub fn from_low_bits(bits: u8) -> GPR
         ensures { λ r. ⌜ r ≡ gprAt bits ⌝ }
     {
         match bits % 8 {
@@ -104,7 +104,7 @@ impl GeneralPurposeRegister {
 
 impl SpecialPurposeRegister {
     pub fn encode(self) -> u16
-        ensures { λ r. ⌜ (r ≡ sprNumber self) × (r < 4) ⌝ }
+        ensures { λ r. ⌜ Bounded r (sprNumber self) 4 ⌝ }
     {
         match self {
             SPR::IP => 0,
@@ -118,14 +118,14 @@ impl SpecialPurposeRegister {
         ensures { λ r. ⌜ r ≡ sprDecodeOf bits ⌝ }
     {
         if bits < 4 {
-            DecodedSPR::Register(SPR::from_low_bits(bits))
+            DecodedSPR::Register(SPR::from_low_bits(bits as u8))
         } else {
             DecodedSPR::Nothing
         }
     }
 
     // The register whose number is in the lowest 2 bits.
-    pub fn from_low_bits(bits: u16) -> SPR
+    pub fn from_low_bits(bits: u8) -> SPR
         ensures { λ r. ⌜ r ≡ sprAt bits ⌝ }
     {
         match bits % 4 {
@@ -139,7 +139,7 @@ impl SpecialPurposeRegister {
 
 impl DecimalRegister {
     pub fn encode(self) -> u16
-        ensures { λ r. ⌜ (r ≡ drNumber self) × (r < 4) ⌝ }
+        ensures { λ r. ⌜ Bounded r (drNumber self) 4 ⌝ }
     {
         match self {
             DR::D0 => 0,
@@ -153,14 +153,14 @@ impl DecimalRegister {
         ensures { λ r. ⌜ r ≡ drDecodeOf bits ⌝ }
     {
         if bits < 4 {
-            DecodedDR::Register(DR::from_low_bits(bits))
+            DecodedDR::Register(DR::from_low_bits(bits as u8))
         } else {
             DecodedDR::Nothing
         }
     }
 
     // The register whose number is in the lowest 2 bits.
-    pub fn from_low_bits(bits: u16) -> DR
+    pub fn from_low_bits(bits: u8) -> DR
         ensures { λ r. ⌜ r ≡ drAt bits ⌝ }
     {
         match bits % 4 {

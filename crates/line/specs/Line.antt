@@ -1,14 +1,16 @@
 -- The line that `berth` prints (document 01, the program).
 use Prim.Native.Nat.{ℕ}
 use mathlib.Core.List.{List, [], _∷_, _++_}
-use lib.ListN.{take, replicate}
+use lib.Dec.{eqb}
+use lib.ListN.{replicate}
+use Rattle.instructions.specs.Choice.{if_then_else_}
 use Rattle.emulator.specs.declared.core.Core.{Core}
-use Rattle.emulator.specs.Outcome as emulator
-use Rattle.emulator.specs.Machine.{Ran, runOf}
-use Rattle.sheet.specs.Outcome as sheet
+use Rattle.emulator.specs.Memory.{lent}
+use Rattle.emulator.specs.Outcome.{Outcome, stepped, halted, limit, fault, refused}
+use Rattle.emulator.specs.Machine.{planOf, Ran, runOf}
+use Rattle.sheet.specs.declared.load.Loaded.{Loaded}
 use Rattle.sheet.specs.Load.{Left, loadSheetOf}
-use Rattle.sheet.specs.Write.{Wrote}
-use Rattle.sheet.specs.Input.{inputOf}
+use Rattle.sheet.specs.Input.{recordsOf, inputRefusal}
 use Rattle.line.specs.Decimal.{decimalOf}
 
 -- the words `halted`, `limit`, `fault` and `refused`
@@ -45,38 +47,28 @@ abbrev pub refusedLine : ℕ → List ℕ
 refusedLine n = row refusedWord (n ∷ [])
 
 -- the line of a run by its end, a fault with number and value; no run ends as stepped
-unfoldable pub endLine : emulator.Outcome → ℕ → Core → List ℕ
-endLine emulator.stepped steps c = []
-endLine emulator.halted steps c = row haltedWord (stateOf steps c)
-endLine emulator.limit steps c = row limitWord (stateOf steps c)
-endLine (emulator.fault n v) steps c = row faultWord (n ∷ v ∷ stateOf steps c)
-endLine (emulator.refused n) steps c = refusedLine n
+unfoldable pub endLine : Outcome → ℕ → Core → List ℕ
+endLine stepped steps c = []
+endLine halted steps c = row haltedWord (stateOf steps c)
+endLine limit steps c = row limitWord (stateOf steps c)
+endLine (fault n v) steps c = row faultWord (n ∷ v ∷ stateOf steps c)
+endLine (refused n) steps c = refusedLine n
 
 abbrev pub ranLine : Ran → List ℕ
 ranLine t = endLine (t .end) (t .steps) (t .core)
 
--- a sheet loaded: its run, with limit 1,000,000; no load comes out with records
-unfoldable pub loadedLine : sheet.Outcome → Core → List ℕ → List ℕ
-loadedLine sheet.done c mem = ranLine (runOf c mem (replicate 32768 0) 1000000)
-loadedLine (sheet.records n) c mem = []
-loadedLine (sheet.refused n) c mem = refusedLine n
+-- a sheet loaded: its run, with limit 1,000,000
+abbrev pub loadedLine : Loaded → Core → List ℕ → List ℕ
+loadedLine Loaded.Done c words = ranLine (runOf planOf c (lent words (replicate 32768 0)) 1000000)
+loadedLine (Loaded.Refused n) c words = refusedLine n
 
 abbrev pub leftLine : Left → List ℕ
-leftLine l = loadedLine (l .outcome) (l .core) (l .memory)
+leftLine l = loadedLine (l .answer) (l .core) (l .memory)
 
 -- a sheet: it is loaded into 32,768 words
 unfoldable pub sheetLine : List ℕ → List ℕ
 sheetLine records = leftLine (loadSheetOf records (replicate 32768 0))
 
--- the input's records as a sheet; no input comes out as done
-unfoldable pub recordsLine : sheet.Outcome → List ℕ → List ℕ
-recordsLine sheet.done buffer = []
-recordsLine (sheet.records n) buffer = sheetLine (take n buffer)
-recordsLine (sheet.refused n) buffer = refusedLine n
-
-abbrev pub wroteLine : Wrote → List ℕ
-wroteLine w = recordsLine (w .outcome) (w .buffer)
-
--- the line of an input, whose records are 8,192 at most
+-- the line of an input: that of the sheet that its records make
 unfoldable pub lineOf : List ℕ → List ℕ
-lineOf input = wroteLine (inputOf input (replicate 8192 0))
+lineOf input = if eqb (inputRefusal input) 0 then sheetLine (recordsOf input) else refusedLine (inputRefusal input)

@@ -3,6 +3,7 @@ ghost use Prim.Native.Nat.{_+_, _*_, _≤_, _<_};
 ghost use mathlib.Core.Path.{_≡_};
 ghost use mathlib.Core.List.{[], _∷_};
 ghost use lib.ListN.{length};
+ghost use Rattle.instructions.specs.Bounded.{Bounded};
 ghost use Rattle.line.specs.Decimal.{decimalOf};
 ghost use Rattle.line.specs.Line.{field, fields};
 ghost use Rattle.line.specs.Put.{Put};
@@ -51,7 +52,7 @@ pub fn put_field(out: &mut [u8; 128], at: usize, n: u32) -> usize
 }
 
 fn wide(word: u16) -> u32
-    ensures { λ r. ⌜ (r ≡ word) × (r < 65536) ⌝ }
+    ensures { λ r. ⌜ Bounded r word 65536 ⌝ }
 {
     word as u32
 }

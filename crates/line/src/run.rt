@@ -6,7 +6,6 @@ use crate::put::put_word;
 use emulator::Core;
 use emulator::End;
 use emulator::Run;
-use emulator::Stop;
 use sheet::Loaded;
 use sheet::Written;
 use sheet::load_sheet;
@@ -14,27 +13,9 @@ use sheet::records;
 ghost use mathlib.Core.Path.{_≡_};
 ghost use mathlib.Core.List.{[], _∷_, _++_};
 ghost use Prim.Native.Nat.{_≤_};
-ghost use Rattle.emulator.specs.Outcome.{endOf, stopOf, fault};
+ghost use Rattle.emulator.specs.Outcome.{endOf};
 ghost use Rattle.line.specs.Line.{fields, stateOf, refusedLine, endLine, sheetLine, lineOf};
 ghost use Rattle.line.specs.Put.{Put, AtFront};
-
-// A stop's number, and the value that is returned too.
-struct Fault {
-    number: u16,
-    value: u16,
-}
-
-fn fault_of(stop: Stop) -> Fault
-    ensures { λ r. ⌜ stopOf stop ≡ fault (r .number) (r .value) ⌝ }
-{
-    match stop {
-        Stop::Undecodable(value) => Fault { number: 10, value },
-        Stop::OutOfRange(value) => Fault { number: 11, value },
-        Stop::Decimal(value) => Fault { number: 12, value },
-        Stop::Amount(value) => Fault { number: 13, value },
-        Stop::Negation(value) => Fault { number: 14, value },
-    }
-}
 
 // Puts what a run leaves, and the line feed: at most 84 bytes.
 fn put_state(out: &mut [u8; 128], at: usize, steps: u32, core: Core) -> usize
@@ -75,8 +56,8 @@ fn put_run(out: &mut [u8; 128], run: Run) -> usize
             put_state(out, at, run.steps, core)
         }
         End::Fault(stop) => {
-            let fault = fault_of(stop);
-            let stopped = [fault.number, fault.value];
+            let fault = stop.fault();
+            let stopped = [fault.number as u16, fault.value];
             let word = put_word(out, b"fault");
             let at = put_fields(out, word, &stopped);
             put_state(out, at, run.steps, core)

@@ -1,31 +1,27 @@
--- The core record and its twelve words undo each other.
+-- A core that is made of its words one by one, and words that are made of a core.
 -- Assumes nothing.
-use mathlib.Core.Path.{_≡_, refl, sym, ap, subst, _∙_}
-use mathlib.Core.List.{List, [], _∷_}
+use mathlib.Core.Path.{_≡_, refl, ap, _∙_}
+use mathlib.Core.List.{List, [], _∷_, _++_}
 use Prim.Native.Nat.{ℕ, zero, suc, _≤_}
-use native.Mathlib.Nat.{le-of-suc-le-suc, not-suc-le-zero, le-of-eq}
+use native.Mathlib.Nat.{le-of-suc-le-suc, not-suc-le-zero}
+use native.Mathlib.Omega.{arith}
 use lib.ListN.{length, take, getD}
 use lib.Seq.{take-all}
-use Rattle.emulator.specs.declared.core.Core.{Core}
 use Rattle.emulator.specs.Core.{coreOf}
-use Rattle.nilguseg.specs.Host.{coreFrom, wordsOf}
+use Rattle.nilguseg.specs.Host.{coreFrom}
 
 -- f of the numbers below n
-abbrev pub upTo : ℕ → (ℕ → ℕ) → List ℕ
+abbrev upTo : ℕ → (ℕ → ℕ) → List ℕ
 upTo zero f = []
 upTo (suc n) f = f 0 ∷ upTo n (λ i. f (suc i))
 
-pub firsts : (n : ℕ) (l : List ℕ) → n ≤ length l → take n l ≡ upTo n (λ i. getD l i 0)
+firsts : (n : ℕ) (l : List ℕ) → n ≤ length l → upTo n (λ i. getD l i 0) ≡ take n l
 firsts zero l h = refl
 firsts (suc n) [] h = absurd (not-suc-le-zero h)
 firsts (suc n) (x ∷ l) h = ap (λ (t : List ℕ). x ∷ t) (firsts n l (le-of-suc-le-suc h))
 
-pub all : (n : ℕ) (l : List ℕ) → length l ≡ n → upTo n (λ i. getD l i 0) ≡ l
-all n l h = sym (firsts n l (le-of-eq (sym h))) ∙ take-all n l (le-of-eq h)
+pub core-taken : (ws : List ℕ) → length ws ≡ 12 → coreOf (upTo 8 (λ i. getD ws i 0)) (getD ws 8 0) (getD ws 9 0) (getD ws 10 0) (getD ws 11 0) ≡ coreFrom ws
+core-taken ws h = rw (firsts 8 ws (omega arith))
 
-pub core-words : (c : Core) → length (c .gprs) ≡ 8 → coreFrom (wordsOf c) ≡ c
-core-words c h =
-    subst (λ (g : List ℕ). coreFrom (wordsOf (coreOf g (c .ip) (c .rp) (c .sp) (c .ef))) ≡ coreOf g (c .ip) (c .rp) (c .sp) (c .ef)) (all 8 (c .gprs) h) refl
-
-pub words-core : (ws : List ℕ) → length ws ≡ 12 → wordsOf (coreFrom ws) ≡ ws
-words-core ws h = subst (λ (l : List ℕ). wordsOf (coreFrom l) ≡ l) (all 12 ws h) refl
+pub core-put : (gs others : List ℕ) → length gs ≡ 8 → upTo 8 (λ i. getD gs i 0) ++ others ≡ gs ++ others
+core-put gs others h = ap (λ (l : List ℕ). l ++ others) (firsts 8 gs (omega arith) ∙ take-all 8 gs (omega arith))

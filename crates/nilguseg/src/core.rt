@@ -1,4 +1,5 @@
-// The core record as twelve words: r0 to r7, ip, rp, sp, ef.
+// The core record as twelve words: r0 to r7, ip, rp, sp, ef. A host's struct `nilguseg_core` is just these, without padding; a struct
+// behind a reference would need its proof walked by hand.
 use emulator::Core;
 ghost use mathlib.Core.Path.{_≡_};
 ghost use Rattle.nilguseg.specs.Host.{coreFrom, wordsOf};

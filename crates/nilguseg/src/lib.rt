@@ -11,7 +11,8 @@ use sheet::load_words;
 use sheet::write_sheet;
 ghost use mathlib.Core.Path.{_≡_};
 ghost use mathlib.Core.List.{[], _∷_};
-ghost use Rattle.emulator.specs.Machine.{stepOf, runOf};
+ghost use Rattle.emulator.specs.Memory.{lent};
+ghost use Rattle.emulator.specs.Machine.{planOf, stepOf, runOf};
 ghost use Rattle.sheet.specs.Load.{loadWordsOf, loadSheetOf};
 ghost use Rattle.sheet.specs.Write.{writeSheetOf};
 ghost use Rattle.nilguseg.specs.Host.{coreFrom, call, stepCall, runCall, loadCall, writeCall};
@@ -22,7 +23,7 @@ mod number;
 // One step of the core.
 #[no_mangle]
 pub extern "C" fn nilguseg_step(core: &mut [u16; 12], memory: &mut [u16], marks: &mut [u8]) -> u32
-    ensures { λ r. ⌜ call r (now (core .exit) ∷ now (memory .exit) ∷ now (marks .exit) ∷ []) ≡ stepCall (stepOf (coreFrom (now (core .entry))) (now (memory .entry)) (now (marks .entry))) ⌝ }
+    ensures { λ r. ⌜ call r (now (core .exit) ∷ now (memory .exit) ∷ now (marks .exit) ∷ []) ≡ stepCall (stepOf planOf (coreFrom (now (core .entry))) (lent (now (memory .entry)) (now (marks .entry)))) ⌝ }
 {
     let step = core_of(*core).step(memory, marks);
     let after = step.core;
@@ -39,7 +40,7 @@ pub extern "C" fn nilguseg_run(
     marks: &mut [u8],
     limit: u32,
 ) -> u64
-    ensures { λ r. ⌜ call r (now (core .exit) ∷ now (memory .exit) ∷ now (marks .exit) ∷ []) ≡ runCall (runOf (coreFrom (now (core .entry))) (now (memory .entry)) (now (marks .entry)) limit) ⌝ }
+    ensures { λ r. ⌜ call r (now (core .exit) ∷ now (memory .exit) ∷ now (marks .exit) ∷ []) ≡ runCall (runOf planOf (coreFrom (now (core .entry))) (lent (now (memory .entry)) (now (marks .entry))) limit) ⌝ }
 {
     let run = core_of(*core).run(memory, marks, limit);
     let after = run.core;

@@ -1,5 +1,4 @@
 -- Laws of the list of kinds, and of what decoding and encoding come to, that the functions' proofs cite.
--- Assumes nothing.
 use mathlib.Core.Path.{_≡_, refl, sym, ap, subst, _∙_}
 use mathlib.Core.List.{map}
 use Prim.Native.Nat.{ℕ, zero, suc, _+_, _*_, _-_, _^_, _≤_, _<_}
@@ -7,18 +6,18 @@ use native.Mathlib.Omega.{arith}
 use lib.ListN.{getD, drop, List·getD-map, List·getD-eq-default}
 use lib.Seq.{getD-drop}
 use borrow.Author.Tests.{lt-ltb, le-ltb}
-use Rattle.instructions.specs.Decoding.{answerOf, decodeOf}
+use Rattle.instructions.specs.Decoding.{decodeOf, undecodable}
 use Rattle.instructions.specs.Encoding.{encodeOf}
 use Rattle.instructions.specs.declared.ins.Instruction.{Instruction}
 use Rattle.instructions.specs.declared.ins.encoding.Decoded.{Decoded}
-use Rattle.nilguseg_words.specs.Instruction.{Kind, kind, kinds, kindAt, numbersOf, packed, decodedNumber, encodedNumber}
+use Rattle.nilguseg_words.specs.Instruction.{Kind, kind, kinds, kindAt, numbers, numbersOf, packed, decodedNumber, encodedNumber}
 
 -- k is none of the numbers below n
 abbrev pub Apart : ℕ → ℕ → Type 0
 Apart zero k = Unit
 Apart (suc n) k = Apart n k × (k ≡ n → ⊥)
 
-pub apart : (n k : ℕ) → Apart n k → n ≤ k
+apart : (n k : ℕ) → Apart n k → n ≤ k
 apart zero k a = omega arith
 apart (suc n) k a =
     let below : n ≤ k = apart n k (a .0) in
@@ -45,27 +44,43 @@ unfolding kinds
 last-of zero a b = refl
 last-of (suc k) a b = refl
 
-pub last : (k a b : ℕ) → 42 ≤ k → kindAt k .made a b ≡ Instruction.Ret
+-- which stands for every other number too
+pub last : (k a b : ℕ) → Apart 42 k → Instruction.Ret ≡ kindAt k .made a b
 unfolding kindAt
-last k a b h =
+last k a b other =
+    let above : 42 ≤ k = apart 42 k other in
     let e : 42 + (k - 42) ≡ k = omega arith in
-    subst (λ (n : ℕ). getD kinds n none .made a b ≡ Instruction.Ret) e
-    (ap (λ (x : Kind). x .made a b) (sym (getD-drop 42 kinds (k - 42) none)) ∙ last-of (k - 42) a b)
+    sym
+    (subst (λ (n : ℕ). getD kinds n none .made a b ≡ Instruction.Ret) e
+    (ap (λ (x : Kind). x .made a b) (sym (getD-drop 42 kinds (k - 42) none)) ∙ last-of (k - 42) a b))
 
-pub decoded : (w : ℕ) {d : Decoded} {i : Instruction} {r : ℕ} →
-    d ≡ Decoded.Ins i → answerOf d ≡ decodeOf w → r ≡ packed (numbersOf i) → r ≡ decodedNumber (decodeOf w)
-decoded w told h p = p ∙ ap decodedNumber (sym (ap answerOf told) ∙ h)
+-- an instruction of the number that the match found
+pub found : (k a b : ℕ) {n : ℕ} {i : Instruction} → k ≡ n → i ≡ kindAt n .made a b → i ≡ kindAt k .made a b
+found k a b p h = rw p h
 
-pub undecodable : (w : ℕ) {d : Decoded} {v : ℕ} →
-    d ≡ Decoded.Undecodable v → answerOf d ≡ decodeOf w → 10 * 2 ^ 24 + v ≡ decodedNumber (decodeOf w)
-undecodable w told h = ap decodedNumber (sym (ap answerOf told) ∙ h)
+-- the numbers of the instruction that the match told, and what the call of `numbers` ensures of them
+pub told : {ins i : Instruction} {r : ℕ} → ins ≡ i → r ≡ packed (numbersOf i) → r ≡ packed (numbersOf ins)
+told p h = rw p h
 
-module _ (k a b : ℕ) where
-  pub first-refused : kindAt k .first ≤ a → 0x10000 ≡ encodedNumber k a b
-  first-refused h = rw (le-ltb a (kindAt k .first) h)
+pub by : (k : ℕ) {a a′ b b′ r : ℕ} → r ≡ packed (numbers k a b) → a ≡ a′ → b ≡ b′ → r ≡ packed (numbers k a′ b′)
+by k h p q = rw (← p, ← q) h
 
-  pub second-refused : kindAt k .second ≤ b → a < kindAt k .first → 0x10000 ≡ encodedNumber k a b
-  second-refused h f = rw (lt-ltb a (kindAt k .first) f, le-ltb b (kindAt k .second) h)
+-- what a decoded word comes to
+module _ (w : ℕ) {d : Decoded} (h : d ≡ decodeOf w) where
+  pub decoded-ins : {i : Instruction} {r : ℕ} → d ≡ Decoded.Ins i → r ≡ packed (numbersOf i) → r ≡ decodedNumber (decodeOf w)
+  decoded-ins p q = rw (← h, p) q
 
-  pub encoded : a < kindAt k .first → b < kindAt k .second → {i : Instruction} → kindAt k .made a b ≡ i → encodedNumber k a b ≡ encodeOf i
-  encoded f s e = rw (lt-ltb a (kindAt k .first) f, lt-ltb b (kindAt k .second) s, e)
+  pub decoded-none : {v : ℕ} → d ≡ Decoded.Undecodable v → undecodable * 2 ^ 24 + v ≡ decodedNumber (decodeOf w)
+  decoded-none p = rw (← h, p)
+
+-- what numbers are encoded to, by the tests of their operands
+module _ (k a b : ℕ) {n : ℕ} (first : n ≡ kindAt k .first) where
+  pub first-refused : n ≤ a → 0x10000 ≡ encodedNumber k a b
+  first-refused l = rw (le-ltb a (kindAt k .first) (rw first at l))
+
+  module _ {m : ℕ} (second : m ≡ kindAt k .second) (l : a < n) where
+    pub second-refused : m ≤ b → 0x10000 ≡ encodedNumber k a b
+    second-refused t = rw (lt-ltb a (kindAt k .first) (rw first at l), le-ltb b (kindAt k .second) (rw second at t))
+
+    pub encoded : {i : Instruction} {r : ℕ} → b < m → i ≡ kindAt k .made a b → r ≡ encodeOf i → r ≡ encodedNumber k a b
+    encoded t p q = rw (lt-ltb a (kindAt k .first) (rw first at l), lt-ltb b (kindAt k .second) (rw second at t), ← p) q

@@ -1,7 +1,7 @@
 -- The numbers of an instruction and the instruction of the numbers undo each other: every instruction, its bytes below 256 as in every
 -- value of the code, is what its own numbers make, and encoding accepts those.
 -- Assumes nothing.
-use mathlib.Core.Path.{_≡_, refl}
+use mathlib.Core.Path.{_≡_, refl, sym}
 use Prim.Native.Nat.{_<_}
 use native.Mathlib.Omega.{arith}
 use Rattle.instructions.specs.Encoding.{encodeOf}
@@ -117,4 +117,4 @@ pub encoded-numbers : (i : Instruction) → numbersOf i .first < 256 → numbers
     encodedNumber (numbersOf i .kind) (numbersOf i .first) (numbersOf i .second) ≡ encodeOf i
 encoded-numbers i f s =
     let u = undone i f s in
-    encoded (numbersOf i .kind) (numbersOf i .first) (numbersOf i .second) (u .first-fits) (u .second-fits) (u .same)
+    sym (encoded (numbersOf i .kind) (numbersOf i .first) (numbersOf i .second) refl refl (u .first-fits) (u .second-fits) (sym (u .same)) refl)

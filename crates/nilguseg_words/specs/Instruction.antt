@@ -4,14 +4,15 @@ use Prim.Native.Nat.{ℕ, _+_, _*_, _^_}
 use mathlib.Core.List.{List, [], _∷_}
 use lib.Dec.{ltb}
 use lib.ListN.{getD}
-use Rattle.instructions.specs.Answer.{Answer, gives, stops}
 use Rattle.instructions.specs.Choice.{if_then_else_}
+use Rattle.instructions.specs.Decoding.{undecodable}
 use Rattle.instructions.specs.Encoding.{encodeOf}
 use Rattle.instructions.specs.Reg.{gprNumber, gprAt, sprNumber, sprAt, drNumber, drAt}
 use Rattle.instructions.specs.declared.reg.GeneralPurposeRegister.{GeneralPurposeRegister}
 use Rattle.instructions.specs.declared.reg.SpecialPurposeRegister.{SpecialPurposeRegister}
 use Rattle.instructions.specs.declared.reg.DecimalRegister.{DecimalRegister}
 use Rattle.instructions.specs.declared.ins.Instruction.{Instruction}
+use Rattle.instructions.specs.declared.ins.encoding.Decoded.{Decoded}
 use Rattle.instructions.specs.declared.ins.Instruction.the-variants.{Nop, Hlt, Mov, DMov, Putl, Puth, Read, Write, Spread, Spwrite, DRead, DWrite, Push, Pop, Movso, Movsi, Spadd, Spinc, Spdec, Not, And, Booland, Or, Xor, Shl, Shr, Bitset, Neg, Inc, Dec, Add, Sub, Mul, Inv, Eqz, Eq, Gt, Gteq, Jmpoff, Cjmpoff, Cjmp, Call, Ret}
 
 -- the number of the kind, and of the operands in the order of the instruction's fields, 0 where there is none
@@ -81,9 +82,9 @@ abbrev pub packed : Numbers → ℕ
 packed n = n .kind * 2 ^ 16 + n .first * 2 ^ 8 + n .second
 
 -- what a word decodes to: the instruction, or the stop in bits 31..24 with its value
-abbrev pub decodedNumber : Answer Instruction → ℕ
-decodedNumber (gives i) = packed (numbersOf i)
-decodedNumber (stops n v) = n * 2 ^ 24 + v
+abbrev pub decodedNumber : Decoded → ℕ
+decodedNumber (Decoded.Ins i) = packed (numbersOf i)
+decodedNumber (Decoded.Undecodable w) = undecodable * 2 ^ 24 + w
 
 -- an operand: how many values it has, and what each number stands for
 pub record Operand (A : Type 0) : Type 0 where

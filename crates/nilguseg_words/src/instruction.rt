@@ -213,12 +213,12 @@ pub fn pack(ins: Instruction) -> u32
 pub fn unpack(kind: u8, first: u8, second: u8) -> Instruction
     ensures { λ r. ⌜ r ≡ kindAt kind .made first second ⌝ }
 {
-    let p = GPR::from_low_bits(first as u16);
-    let q = GPR::from_low_bits(second as u16);
-    let sp = SPR::from_low_bits(first as u16);
-    let sq = SPR::from_low_bits(second as u16);
-    let dp = DR::from_low_bits(first as u16);
-    let dq = DR::from_low_bits(second as u16);
+    let p = GPR::from_low_bits(first);
+    let q = GPR::from_low_bits(second);
+    let sp = SPR::from_low_bits(first);
+    let sq = SPR::from_low_bits(second);
+    let dp = DR::from_low_bits(first);
+    let dq = DR::from_low_bits(second);
     match kind {
         // Core
         0 => Instruction::Nop,

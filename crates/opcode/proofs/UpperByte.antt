@@ -3,7 +3,7 @@
 use mathlib.Core.List.{List, [], _∷_}
 use mathlib.Core.Path.{_≡_, refl, subst}
 use mathlib.Core.Bool.{Bool, true, false, _&&_}
-use Prim.Native.Nat.{ℕ, _/_, _≤_, _<_}
+use Prim.Native.Nat.{ℕ, _+_, _/_, _≤_, _<_}
 use native.Mathlib.Omega.{arith}
 use lib.Dec.{T, ltb}
 use borrow.Author.Tests.{lt-ltb, eq-eqb, ne-eqb}
@@ -13,8 +13,14 @@ use Rattle.opcode.specs.declared.InstructionOpcode.{InstructionOpcode}
 use Rattle.opcode.specs.declared.InstructionOpcode.the-variants.{Putl, Puth, Undecodable}
 
 -- what the row of the upper byte k answers
-pub row : (k hi lo : ℕ) {r : InstructionOpcode} → hi ≡ k → r ≡ opcodeOf k lo → r ≡ opcodeOf hi lo
-row k hi lo e p = rw e p
+pub row : {k hi : ℕ} (lo : ℕ) {r : InstructionOpcode} → hi ≡ k → r ≡ opcodeOf k lo → r ≡ opcodeOf hi lo
+row lo e p = rw e p
+
+-- the second of two neighbouring upper bytes
+pub second : (k hi lo : ℕ) {r : InstructionOpcode} → k ≤ hi → hi < k + 2 → (hi ≡ k → ⊥) → r ≡ opcodeOf (k + 1) lo → r ≡ opcodeOf hi lo
+second k hi lo l h n p =
+    let e : hi ≡ k + 1 = omega arith in
+    row lo e p
 
 module _ (hi lo : ℕ) where
   pub is-putl : 0x10 ≤ hi → hi < 0x18 → Putl ≡ opcodeOf hi lo

@@ -1,4 +1,5 @@
--- The opcode of a word with the upper byte hi and the lower byte lo (document 01, Words).
+-- The opcode of a word with the upper byte hi and the lower byte lo (document 01, Words). It need not be believed: what is decoded by
+-- it, `decodeOf`, is proved to be the inverse of the table `encodeOf`.
 use Prim.Native.Nat.{ℕ, _/_, _%_}
 use mathlib.Core.Bool.{Bool}
 use lib.Dec.{ltb, eqb}
@@ -18,30 +19,30 @@ aloneOf byte k lo = only (eqb lo byte) k
 abbrev pub singleOf : InstructionOpcode → ℕ → InstructionOpcode
 singleOf k lo = only (ltb lo 8) k
 
--- a general register in the low four bits, 0rrr; or a decimal one, 10dd
-abbrev pub registerOf : InstructionOpcode → ℕ → InstructionOpcode
-registerOf k lo = only (ltb (lo % 16) 8) k
+-- a general register in the low four bits: 0rrr
+abbrev pub generalOf : InstructionOpcode → ℕ → InstructionOpcode
+generalOf k lo = only (ltb (lo % 16) 8) k
 
-abbrev pub registerOrDecimalOf : InstructionOpcode → InstructionOpcode → ℕ → InstructionOpcode
-registerOrDecimalOf k d lo = if ltb (lo % 16) 8 then k else only (ltb (lo % 16) 12) d
+-- a general register there, 0rrr, or a decimal one, 10dd
+abbrev pub generalOrDecimalOf : InstructionOpcode → InstructionOpcode → ℕ → InstructionOpcode
+generalOrDecimalOf k d lo = if ltb (lo % 16) 8 then k else only (ltb (lo % 16) 12) d
 
 -- registers at p and q: 0ppp0qqq
 abbrev pub pairedOf : InstructionOpcode → ℕ → InstructionOpcode
-pairedOf k lo = if ltb lo 0x80 then only (ltb (lo % 16) 8) k else Undecodable
+pairedOf k lo = if ltb lo 0x80 then generalOf k lo else Undecodable
 
 -- the upper byte 0x20: 0aaa0rrr, 0aaa10dd, 1aaa0rrr, 1aaa10dd
 abbrev pub memoryOf : ℕ → InstructionOpcode
-memoryOf lo =
-    if ltb lo 0x80
-    then (if ltb (lo % 16) 8 then Read else only (ltb (lo % 16) 12) DRead)
-    else (if ltb (lo % 16) 8 then Write else only (ltb (lo % 16) 12) DWrite)
+memoryOf lo = if ltb lo 0x80 then generalOrDecimalOf Read DRead lo else generalOrDecimalOf Write DWrite lo
 
--- the upper byte 0x21: 0sss0ddd, 00ss10dd, 10ss0ddd, 11dd0sss, 11011rrr
+-- the upper byte 0x21: 00ss0ddd, 00ss10dd, 01ss0ddd, 10ss0ddd, 11011rrr, 11dd0sss
 abbrev pub movesOf : ℕ → InstructionOpcode
 movesOf lo =
-    if ltb (lo % 16) 8 then (if ltb lo 0x80 then Mov else if ltb lo 0xC0 then Movso else Movsi)
-    else if ltb lo 0x40 then only (ltb (lo % 16) 12) DMov
-    else only (eqb (lo / 8) 0x1B) Spadd
+    if ltb lo 0x40 then generalOrDecimalOf Mov DMov lo
+    else if ltb lo 0x80 then generalOf Mov lo
+    else if ltb lo 0xC0 then generalOf Movso lo
+    else if eqb (lo / 8) 0x1B then Spadd
+    else generalOf Movsi lo
 
 -- the upper byte 0x22
 abbrev pub pointerOf : ℕ → InstructionOpcode
@@ -57,7 +58,7 @@ slotsOf lo = if ltb lo 0x80 then Spread else Spwrite
 
 -- the upper byte 0x41: 0xxx0rrr, 1xxx0rrr
 abbrev pub andsOf : ℕ → InstructionOpcode
-andsOf lo = only (ltb (lo % 16) 8) (if ltb lo 0x80 then And else Booland)
+andsOf lo = if ltb lo 0x80 then generalOf And lo else generalOf Booland lo
 
 -- the upper byte 0x48: 00000rrr, 00010rrr, 00100rrr
 abbrev pub unaryOf : ℕ → InstructionOpcode

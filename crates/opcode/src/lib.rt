@@ -1,7 +1,7 @@
 // The opcode of a word, by ranges of its upper byte and then of its lower byte: the first half of decoding.
 ghost use mathlib.Core.Path.{_≡_};
 ghost use Prim.Native.Nat.{_<_, _≤_};
-ghost use Rattle.opcode.specs.Opcode.{singleOf, registerOf, registerOrDecimalOf, pairedOf, memoryOf, movesOf, pointerOf, stackOf, slotsOf, andsOf, unaryOf, zeroOf, callsOf, opcodeOf};
+ghost use Rattle.opcode.specs.Opcode.{singleOf, generalOf, generalOrDecimalOf, pairedOf, memoryOf, movesOf, pointerOf, stackOf, slotsOf, andsOf, unaryOf, zeroOf, callsOf, opcodeOf};
 
 // The kind of an instruction, or that a word is undecodable. One flat enum, so that it takes one byte.
 pub enum InstructionOpcode {
@@ -113,8 +113,8 @@ fn memory(lo: u8) -> InstructionOpcode
     ensures { λ r. ⌜ r ≡ memoryOf lo ⌝ }
 {
     match lo {
-        0x00..=0x7F => register_or_decimal(lo, InstructionOpcode::Read, InstructionOpcode::DRead),
-        _ => register_or_decimal(lo, InstructionOpcode::Write, InstructionOpcode::DWrite),
+        0x00..=0x7F => general_or_decimal(lo, InstructionOpcode::Read, InstructionOpcode::DRead),
+        _ => general_or_decimal(lo, InstructionOpcode::Write, InstructionOpcode::DWrite),
     }
 }
 
@@ -123,11 +123,11 @@ fn moves(lo: u8) -> InstructionOpcode
     ensures { λ r. ⌜ r ≡ movesOf lo ⌝ }
 {
     match lo {
-        0x00..=0x3F => register_or_decimal(lo, InstructionOpcode::Mov, InstructionOpcode::DMov),
-        0x40..=0x7F => register(lo, InstructionOpcode::Mov),
-        0x80..=0xBF => register(lo, InstructionOpcode::Movso),
+        0x00..=0x3F => general_or_decimal(lo, InstructionOpcode::Mov, InstructionOpcode::DMov),
+        0x40..=0x7F => general(lo, InstructionOpcode::Mov),
+        0x80..=0xBF => general(lo, InstructionOpcode::Movso),
         0xD8..=0xDF => InstructionOpcode::Spadd,
-        _ => register(lo, InstructionOpcode::Movsi),
+        _ => general(lo, InstructionOpcode::Movsi),
     }
 }
 
@@ -204,8 +204,8 @@ fn ands(lo: u8) -> InstructionOpcode
     ensures { λ r. ⌜ r ≡ andsOf lo ⌝ }
 {
     match lo {
-        0x00..=0x7F => register(lo, InstructionOpcode::And),
-        _ => register(lo, InstructionOpcode::Booland),
+        0x00..=0x7F => general(lo, InstructionOpcode::And),
+        _ => general(lo, InstructionOpcode::Booland),
     }
 }
 
@@ -317,8 +317,8 @@ fn paired(lo: u8, opcode: InstructionOpcode) -> InstructionOpcode
 }
 
 // A general register in the low four bits: 0qqq.
-fn register(lo: u8, opcode: InstructionOpcode) -> InstructionOpcode
-    ensures { λ r. ⌜ r ≡ registerOf opcode lo ⌝ }
+fn general(lo: u8, opcode: InstructionOpcode) -> InstructionOpcode
+    ensures { λ r. ⌜ r ≡ generalOf opcode lo ⌝ }
 {
     match lo % 16 {
         0x0..=0x7 => opcode,
@@ -327,12 +327,12 @@ fn register(lo: u8, opcode: InstructionOpcode) -> InstructionOpcode
 }
 
 // A general or a decimal register in the low four bits: 0qqq, 10dd.
-fn register_or_decimal(
+fn general_or_decimal(
     lo: u8,
     opcode: InstructionOpcode,
     decimal: InstructionOpcode,
 ) -> InstructionOpcode
-    ensures { λ r. ⌜ r ≡ registerOrDecimalOf opcode decimal lo ⌝ }
+    ensures { λ r. ⌜ r ≡ generalOrDecimalOf opcode decimal lo ⌝ }
 {
     match lo % 16 {
         0x0..=0x7 => opcode,

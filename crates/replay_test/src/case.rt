@@ -3,6 +3,9 @@ use emulator::Answer;
 use emulator::Core;
 use emulator::End;
 use emulator::Stop;
+use emulator::step_by_lent;
+use instructions::GPR;
+use instructions::SPR;
 ghost use Prim.Native.Nat.{_≤_, _<_};
 
 // Bytes of a case.
@@ -15,31 +18,49 @@ struct Ended {
     value: u16,
 }
 
-// Whether this machine answers as the Rust did.
+// Whether this machine answers as the Rust did. A step is made on a core by value and on one that is lent.
 pub fn replay(case: &[u8; 222]) -> bool {
-    let mut memory = memory_at(case, 15);
-    let mark = (word(case, 2) % 256) as u8;
-    let mut marks = [mark; 32];
-    let core = core_at(case, 3);
     if word(case, 0) == 0 {
-        let s = core.step(&mut memory, &mut marks);
-        let after = s.core;
-        let answer = s.answer;
-        let as_expected = same_answer(step_ended(answer), 0, case);
-        as_expected
-            && same_core(after, case)
-            && same_memory(&memory, case)
-            && same_marks(&marks, case)
+        replay_step(case) && replay_lent(case)
     } else {
-        let r = core.run(&mut memory, &mut marks, word(case, 1) as u32);
-        let after = r.core;
-        let end = r.end;
-        let as_expected = same_answer(run_ended(end), r.steps, case);
-        as_expected
-            && same_core(after, case)
-            && same_memory(&memory, case)
-            && same_marks(&marks, case)
+        replay_run(case)
     }
+}
+
+fn replay_step(case: &[u8; 222]) -> bool {
+    let mut memory = memory_at(case, 15);
+    let mut marks = [mark(case); 32];
+    let s = core_at(case, 3).step(&mut memory, &mut marks);
+    let after = s.core;
+    let answer = s.answer;
+    same_answer(step_ended(answer), 0, case)
+        && same_core(after, case)
+        && same_memory(&memory, case)
+        && same_marks(&marks, case)
+}
+
+fn replay_lent(case: &[u8; 222]) -> bool {
+    let mut memory = memory_at(case, 15);
+    let mut marks = [mark(case); 32];
+    let s = step_by_lent(core_at(case, 3), &mut memory, &mut marks);
+    let after = s.core;
+    let answer = s.answer;
+    same_answer(step_ended(answer), 0, case)
+        && same_core(after, case)
+        && same_memory(&memory, case)
+        && same_marks(&marks, case)
+}
+
+fn replay_run(case: &[u8; 222]) -> bool {
+    let mut memory = memory_at(case, 15);
+    let mut marks = [mark(case); 32];
+    let r = core_at(case, 3).run(&mut memory, &mut marks, word(case, 1) as u32);
+    let after = r.core;
+    let end = r.end;
+    same_answer(run_ended(end), r.steps, case)
+        && same_core(after, case)
+        && same_memory(&memory, case)
+        && same_marks(&marks, case)
 }
 
 // Word `i` of a case, low byte first.
@@ -56,26 +77,24 @@ fn wide(byte: u8) -> u16
     byte as u16
 }
 
+// The mark that every address starts with.
+fn mark(case: &[u8; 222]) -> u8 {
+    (word(case, 2) % 256) as u8
+}
+
 fn core_at(case: &[u8; 222], at: usize) -> Core
     requires { ⌜ at < 90 ⌝ }
 {
-    let gprs = [
-        word(case, at),
-        word(case, at + 1),
-        word(case, at + 2),
-        word(case, at + 3),
-        word(case, at + 4),
-        word(case, at + 5),
-        word(case, at + 6),
-        word(case, at + 7),
-    ];
-    Core {
-        gprs,
-        ip: word(case, at + 8),
-        rp: word(case, at + 9),
-        sp: word(case, at + 10),
-        ef: word(case, at + 11),
+    let mut core = Core::new();
+    let mut i: usize = 0;
+    while i < 8 {
+        core = core.write_gpr(GPR::from_low_bits(i as u8), word(case, at + i));
+        i += 1;
     }
+    core = core.write_spr(SPR::IP, word(case, at + 8));
+    core = core.write_spr(SPR::RP, word(case, at + 9));
+    core = core.write_spr(SPR::SP, word(case, at + 10));
+    core.write_spr(SPR::EF, word(case, at + 11))
 }
 
 fn memory_at(case: &[u8; 222], at: usize) -> [u16; 32]
@@ -91,32 +110,11 @@ fn memory_at(case: &[u8; 222], at: usize) -> [u16; 32]
 }
 
 fn fault(stop: Stop) -> Ended {
-    match stop {
-        Stop::Undecodable(w) => Ended {
-            class: 2,
-            number: 10,
-            value: w,
-        },
-        Stop::OutOfRange(a) => Ended {
-            class: 2,
-            number: 11,
-            value: a,
-        },
-        Stop::Decimal(w) => Ended {
-            class: 2,
-            number: 12,
-            value: w,
-        },
-        Stop::Amount(a) => Ended {
-            class: 2,
-            number: 13,
-            value: a,
-        },
-        Stop::Negation(v) => Ended {
-            class: 2,
-            number: 14,
-            value: v,
-        },
+    let f = stop.fault();
+    Ended {
+        class: 2,
+        number: f.number as u16,
+        value: f.value,
     }
 }
 
@@ -154,17 +152,28 @@ fn same_answer(ended: Ended, steps: u32, case: &[u8; 222]) -> bool {
 }
 
 fn same_core(core: Core, case: &[u8; 222]) -> bool {
-    let mut i = 0;
+    let mut i: usize = 0;
     while i < 8 {
-        if core.gprs[i] != word(case, 51 + i) {
+        if core.read_gpr(GPR::from_low_bits(i as u8)) != word(case, 51 + i) {
             return false;
         }
         i += 1;
     }
-    core.ip == word(case, 59)
-        && core.rp == word(case, 60)
-        && core.sp == word(case, 61)
-        && core.ef == word(case, 62)
+    core.read_spr(SPR::IP) == word(case, 59)
+        && core.read_spr(SPR::RP) == word(case, 60)
+        && core.read_spr(SPR::SP) == word(case, 61)
+        && same_flags(core, word(case, 62))
+}
+
+// Whether the flags are those of this word; the condition changed and changed back leaves the others as they are.
+fn same_flags(core: Core, ef: u16) -> bool {
+    let halted = ef % 2 == 1;
+    let cond = ef / 2 % 2 == 1;
+    let changed = core.set_cond(!cond);
+    core.is_halted() == halted
+        && core.is_cond_set() == cond
+        && changed.is_cond_set() != cond
+        && changed.set_cond(cond).read_spr(SPR::EF) == ef
 }
 
 fn same_memory(memory: &[u16; 32], case: &[u8; 222]) -> bool {

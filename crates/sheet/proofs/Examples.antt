@@ -3,16 +3,18 @@ use Prim.Native.Nat.{ℕ}
 use mathlib.Core.List.{List, [], _∷_, map}
 use mathlib.Core.Path.{_≡_, refl}
 use Rattle.emulator.specs.Core.{newCore}
-use Rattle.sheet.specs.Outcome.{Outcome}
+use Rattle.emulator.specs.Memory.{refusedLength}
+use Rattle.sheet.specs.declared.load.Loaded.{Loaded}
+use Rattle.sheet.specs.declared.load.Loaded.the-variants.{Done, Refused}
 use Rattle.sheet.specs.Record.{recordOf, registerOf, withRegister}
-use Rattle.sheet.specs.Load.{left, refusedLength, readFrom, loadSheetOf, loadWordsOf}
+use Rattle.sheet.specs.Load.{left, readFrom, loadSheetOf, loadWordsOf}
 use Rattle.sheet.specs.Write.{presetsFrom, recordsAt, stretchesFrom, nonzero, wordsIn, sheetOf}
 
--- how a sheet comes out in a memory of two words
-abbrev pub outcome : List ℕ → Outcome
-outcome sheet = loadSheetOf sheet (7 ∷ 7 ∷ []) .outcome
+-- the answer to a sheet in a memory of two words
+abbrev pub answer : List ℕ → Loaded
+answer sheet = loadSheetOf sheet (7 ∷ 7 ∷ []) .answer
 
-pub refusals : map outcome
+pub refusals : map answer
     ((0x00000000 ∷ [])
     ∷ (0x10010000 ∷ [])
     ∷ (0x20010000 ∷ [])
@@ -25,23 +27,23 @@ pub refusals : map outcome
     ∷ (0x30001234 ∷ [])
     ∷ (0x10000001 ∷ 0x20000001 ∷ 0xF0000001 ∷ [])
     ∷ [])
-    ≡ Outcome.refused 20
-    ∷ Outcome.refused 21
-    ∷ Outcome.refused 21
-    ∷ Outcome.refused 21
-    ∷ Outcome.refused 22
-    ∷ Outcome.refused 23
-    ∷ Outcome.refused 26
-    ∷ Outcome.refused 25
-    ∷ Outcome.refused 24
-    ∷ Outcome.refused 24
-    ∷ Outcome.done
+    ≡ Refused 20
+    ∷ Refused 21
+    ∷ Refused 21
+    ∷ Refused 21
+    ∷ Refused 22
+    ∷ Refused 23
+    ∷ Refused 26
+    ∷ Refused 25
+    ∷ Refused 24
+    ∷ Refused 24
+    ∷ Done
     ∷ []
 unfolding loadSheetOf refusedLength readFrom recordOf withRegister
 refusals = refl
 
 -- the program's example
-pub program : loadSheetOf (0x20001003 ∷ 0x2000FFFF ∷ 0xF0000002 ∷ []) (7 ∷ 7 ∷ 7 ∷ []) ≡ left Outcome.done newCore (0x1003 ∷ 0xFFFF ∷ 0 ∷ [])
+pub program : loadSheetOf (0x20001003 ∷ 0x2000FFFF ∷ 0xF0000002 ∷ []) (7 ∷ 7 ∷ 7 ∷ []) ≡ left Done newCore (0x1003 ∷ 0xFFFF ∷ 0 ∷ [])
 unfolding loadSheetOf refusedLength readFrom recordOf
 program = refl
 
@@ -53,6 +55,6 @@ pub stretches : sheetOf newCore (5 ∷ 0 ∷ 6 ∷ 7 ∷ [])
 unfolding sheetOf presetsFrom stretchesFrom recordsAt wordsIn nonzero registerOf
 stretches = refl
 
-pub words : loadWordsOf (1 ∷ 2 ∷ []) (7 ∷ 7 ∷ 7 ∷ []) ≡ left Outcome.done newCore (1 ∷ 2 ∷ 0 ∷ [])
+pub words : loadWordsOf (1 ∷ 2 ∷ []) (7 ∷ 7 ∷ 7 ∷ []) ≡ left Done newCore (1 ∷ 2 ∷ 0 ∷ [])
 unfolding loadWordsOf refusedLength
 words = refl

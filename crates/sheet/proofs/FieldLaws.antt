@@ -1,11 +1,12 @@
 -- Laws of a record's fields and of its register, one for each way through the code.
-use Prim.Native.Nat.{ℕ, _<_, _≤_}
-use mathlib.Core.Path.{_≡_}
-use lib.ListN.{getD, set}
+use Prim.Native.Nat.{ℕ, _-_, _<_, _≤_}
+use mathlib.Core.Path.{_≡_, _∙_}
 use borrow.Author.Tests.{lt-ltb, le-ltb, eq-eqb, ne-eqb}
-use Rattle.instructions.specs.declared.reg.SpecialPurposeRegister.the-variants.{IP, RP, SP, EF}
+use Rattle.instructions.specs.declared.reg.GeneralPurposeRegister.{GeneralPurposeRegister}
+use Rattle.instructions.specs.declared.reg.SpecialPurposeRegister.{SpecialPurposeRegister}
+use Rattle.instructions.specs.Reg.{gprAt, sprAt}
 use Rattle.emulator.specs.declared.core.Core.{Core}
-use Rattle.emulator.specs.Core.{writeSpr}
+use Rattle.emulator.specs.Core.{readGpr, writeGpr, readSpr, writeSpr}
 use Rattle.sheet.specs.declared.fields.Record.the-variants.{Place, Word, Preset, End, Refused}
 use Rattle.sheet.specs.Record.{kind, above16, above20, register, low, count, recordOf, registerOf, withRegister}
 
@@ -49,50 +50,20 @@ module _ (w : ℕ) where
         unfolding recordOf
         unknown k = rw (ne-eqb (kind w) 1 n₁, ne-eqb (kind w) 2 n₂, ne-eqb (kind w) 3 n₃, ne-eqb (kind w) 15 k)
 
-module _ (c : Core) (r : ℕ) where
-  pub is-general : r < 8 → getD (c .gprs) r 0 ≡ registerOf c r
+module _ (c : Core) (n : ℕ) {w : ℕ} where
+  pub is-general : {r : GeneralPurposeRegister} → n < 8 → r ≡ gprAt n → w ≡ readGpr c r → w ≡ registerOf c n
   unfolding registerOf
-  is-general l = rw (lt-ltb r 8 l)
+  is-general l e p = p ∙ rw (e, lt-ltb n 8 l)
 
-  module _ (l : 8 ≤ r) where
-    pub is-ip : r ≡ 8 → c .ip ≡ registerOf c r
-    unfolding registerOf
-    is-ip e = rw (le-ltb r 8 l, eq-eqb r 8 e)
+  pub is-special : {r : SpecialPurposeRegister} → 8 ≤ n → r ≡ sprAt (n - 8) → w ≡ readSpr c r → w ≡ registerOf c n
+  unfolding registerOf
+  is-special l e p = p ∙ rw (e, le-ltb n 8 l)
 
-    module _ (n₈ : r ≡ 8 → ⊥) where
-      pub is-rp : r ≡ 9 → c .rp ≡ registerOf c r
-      unfolding registerOf
-      is-rp e = rw (le-ltb r 8 l, ne-eqb r 8 n₈, eq-eqb r 9 e)
-
-      module _ (n₉ : r ≡ 9 → ⊥) where
-        pub is-sp : r ≡ 10 → c .sp ≡ registerOf c r
-        unfolding registerOf
-        is-sp e = rw (le-ltb r 8 l, ne-eqb r 8 n₈, ne-eqb r 9 n₉, eq-eqb r 10 e)
-
-        pub is-ef : (r ≡ 10 → ⊥) → c .ef ≡ registerOf c r
-        unfolding registerOf
-        is-ef n = rw (le-ltb r 8 l, ne-eqb r 8 n₈, ne-eqb r 9 n₉, ne-eqb r 10 n)
-
-module _ (c : Core) (r v : ℕ) where
-  pub with-general : r < 8 → record { gprs = set (c .gprs) r v; ip = c .ip; rp = c .rp; sp = c .sp; ef = c .ef } ≡ withRegister c r v
+module _ (c : Core) (n v : ℕ) {d : Core} where
+  pub with-general : {r : GeneralPurposeRegister} → n < 8 → r ≡ gprAt n → d ≡ writeGpr c r v → d ≡ withRegister c n v
   unfolding withRegister
-  with-general l = rw (lt-ltb r 8 l)
+  with-general l e p = p ∙ rw (e, lt-ltb n 8 l)
 
-  module _ {d : Core} (l : 8 ≤ r) where
-    pub with-ip : r ≡ 8 → d ≡ writeSpr c IP v → d ≡ withRegister c r v
-    unfolding withRegister
-    with-ip e p = rw (le-ltb r 8 l, eq-eqb r 8 e) p
-
-    module _ (n₈ : r ≡ 8 → ⊥) where
-      pub with-rp : r ≡ 9 → d ≡ writeSpr c RP v → d ≡ withRegister c r v
-      unfolding withRegister
-      with-rp e p = rw (le-ltb r 8 l, ne-eqb r 8 n₈, eq-eqb r 9 e) p
-
-      module _ (n₉ : r ≡ 9 → ⊥) where
-        pub with-sp : r ≡ 10 → d ≡ writeSpr c SP v → d ≡ withRegister c r v
-        unfolding withRegister
-        with-sp e p = rw (le-ltb r 8 l, ne-eqb r 8 n₈, ne-eqb r 9 n₉, eq-eqb r 10 e) p
-
-        pub with-ef : (r ≡ 10 → ⊥) → d ≡ writeSpr c EF v → d ≡ withRegister c r v
-        unfolding withRegister
-        with-ef n p = rw (le-ltb r 8 l, ne-eqb r 8 n₈, ne-eqb r 9 n₉, ne-eqb r 10 n) p
+  pub with-special : {r : SpecialPurposeRegister} → 8 ≤ n → r ≡ sprAt (n - 8) → d ≡ writeSpr c r v → d ≡ withRegister c n v
+  unfolding withRegister
+  with-special l e p = p ∙ rw (e, le-ltb n 8 l)

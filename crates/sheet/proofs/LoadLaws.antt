@@ -6,36 +6,26 @@ use mathlib.Core.Path.{_≡_, ap, _∙_}
 use native.Mathlib.Omega.{arith}
 use lib.ListN.{length, replicate, length-replicate}
 use lib.Seq.{sets}
-use lib.Dec.{ltb}
-use borrow.Author.Tests.{lt-ltb, le-ltb, eq-eqb, ne-eqb}
+use borrow.Author.Tests.{lt-ltb, le-ltb}
 use Rattle.emulator.specs.declared.core.Core.{Core}
 use Rattle.emulator.specs.Core.{newCore}
-use Rattle.sheet.specs.Outcome.{Outcome}
-use Rattle.sheet.specs.Load.{left, refusedLength, loadWordsOf}
+use Rattle.emulator.specs.Memory.{refusedLength}
+use Rattle.sheet.specs.declared.load.Loaded.{Loaded}
+use Rattle.sheet.specs.Load.{left, loadWordsOf}
 use Rattle.sheet.proofs.Stores.{sets-front, drop-replicate}
-
--- host test 1
-module _ (n : ℕ) where
-  pub refuses-none : n ≡ 0 → true ≡ refusedLength n
-  unfolding refusedLength
-  refuses-none e = rw (eq-eqb n 0 e)
-
-  pub refuses-long : (n ≡ 0 → ⊥) → ltb 65536 n ≡ refusedLength n
-  unfolding refusedLength
-  refuses-long e = rw (ne-eqb n 0 e)
 
 -- a word list
 module _ (words mem : List ℕ) {a : Bool} {c : Core} (asked : a ≡ refusedLength (length mem)) (fresh : c ≡ newCore) where
-  pub words-refused : a ≡ true → left (Outcome.refused 1) c mem ≡ loadWordsOf words mem
+  pub words-refused : a ≡ true → left (Loaded.Refused 1) c mem ≡ loadWordsOf words mem
   unfolding loadWordsOf
   words-refused e = rw (fresh, ← asked, e)
 
-  pub words-long : a ≡ false → length mem < length words → left (Outcome.refused 3) c mem ≡ loadWordsOf words mem
+  pub words-long : a ≡ false → length mem < length words → left (Loaded.Refused 3) c mem ≡ loadWordsOf words mem
   unfolding loadWordsOf
   words-long e l = rw (fresh, ← asked, e, lt-ltb (length mem) (length words) l)
 
   pub words-loaded : {zeros mem′ : List ℕ} → a ≡ false → length words ≤ length mem → zeros ≡ replicate (length mem) 0 → mem′ ≡ sets zeros 0 words
-      → left Outcome.done c mem′ ≡ loadWordsOf words mem
+      → left Loaded.Done c mem′ ≡ loadWordsOf words mem
   unfolding loadWordsOf
   words-loaded {zeros} {mem′} e l z s =
       let same : length zeros ≡ length mem = ap length z ∙ length-replicate (length mem) 0 in

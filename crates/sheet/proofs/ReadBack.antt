@@ -1,6 +1,5 @@
 -- What the writer's records read as, one by one and in a row.
-use Prim.Native.Nat.{ℕ, zero, suc, _+_, _*_, _/_, _%_, _^_, _<_, _≤_}
-use mathlib.Core.Bool.{Bool, true, false}
+use Prim.Native.Nat.{ℕ, zero, suc, _+_, _-_, _*_, _/_, _%_, _^_, _<_, _≤_}
 use mathlib.Core.List.{List, [], _∷_, _++_}
 use mathlib.Core.Path.{_≡_, refl, sym, ap, _∙_}
 use native.Mathlib.Omega.{arith}
@@ -8,9 +7,12 @@ use lib.ListN.{length, getD, set, replicate, length-append, drop-of-length-le}
 use lib.Seq.{set-at, append-snoc}
 use lib.Dec.{ltb, eqb}
 use borrow.Author.Tests.{lt-ltb, eq-eqb, eqb-true, eqb-false}
-use Rattle.instructions.specs.Choice.{if_then_else_}
+use Rattle.instructions.specs.Reg.{gprNumber, gprAt, sprAt}
+use Rattle.instructions.specs.declared.reg.SpecialPurposeRegister.{SpecialPurposeRegister}
+use Rattle.instructions.specs.declared.reg.SpecialPurposeRegister.the-variants.{IP, RP, SP, EF}
 use Rattle.emulator.specs.declared.core.Core.{Core}
-use Rattle.emulator.specs.Core.{newCore}
+use Rattle.emulator.specs.Core.{newCore, readSpr}
+use Rattle.emulator.proofs.Cases.{by-test, if-elim}
 use Rattle.sheet.specs.declared.fields.Record.the-variants.{Place, Word, Preset, End}
 use Rattle.sheet.specs.Record.{kind, register, low, count, recordOf, registerOf, withRegister}
 use Rattle.sheet.specs.Load.{Reading, readFrom}
@@ -19,10 +21,6 @@ use Rattle.sheet.specs.RoundTrip.{Words, WholeCore}
 use Rattle.sheet.proofs.FieldLaws as fields
 use Rattle.sheet.proofs.Stores.{four}
 use Rattle.sheet.proofs.WriteLaws.{at-zero, at-first, at-within, counts-none, counts-one}
-
-by-test : {A : Type 0} (t : Bool) → (t ≡ true → A) → (t ≡ false → A) → A
-by-test true f g = f refl
-by-test false f g = g refl
 
 -- a kind is no other kind
 other : {x k : ℕ} → x ≡ k → (j : ℕ) → j < k → x ≡ j → ⊥
@@ -85,14 +83,13 @@ takes c (suc k) r d = takes c k (r + 1) (withRegister d r (registerOf c r))
 
 register-fits : (c : Core) → WholeCore c → (r : ℕ) → registerOf c r < 2 ^ 16
 unfolding registerOf
-register-fits c h r = go (ltb r 8) (eqb r 8) (eqb r 9) (eqb r 10)
+register-fits c h r = if-elim (λ (w : ℕ). w < 2 ^ 16) (ltb r 8) (λ t. h .gprs (gprNumber (gprAt r))) (λ t. special (sprAt (r - 8)))
   where
-    go : (g i p s : Bool) → (if g then getD (c .gprs) r 0 else if i then c .ip else if p then c .rp else if s then c .sp else c .ef) < 2 ^ 16
-    go true i p s = h .gprs r
-    go false true p s = h .ip
-    go false false true s = h .rp
-    go false false false true = h .sp
-    go false false false false = h .ef
+    special : (s : SpecialPurposeRegister) → readSpr c s < 2 ^ 16
+    special IP = h .ip
+    special RP = h .rp
+    special SP = h .sp
+    special EF = h .ef
 
 read-takes : (c : Core) → WholeCore c → (k r : ℕ) → r + k ≤ 12 → (ws : List ℕ) (a n : ℕ) (d : Core) (mem : List ℕ)
     → readFrom (presetsFrom c k r ++ ws) a n d mem ≡ readFrom ws a n (takes c k r d) mem
@@ -110,7 +107,7 @@ eight l e =
 
 takes-all : (c : Core) → WholeCore c → takes c 12 0 newCore ≡ c
 unfolding takes withRegister registerOf
-takes-all c h = λ i. record { gprs = eight (c .gprs) (h .eight) i; ip = c .ip; rp = c .rp; sp = c .sp; ef = c .ef }
+takes-all c h = rw (eight (c .gprs) (h .eight))
 
 pub read-presets : (c : Core) → WholeCore c → (ws : List ℕ) (a n : ℕ) (mem : List ℕ)
     → readFrom (presetsFrom c 12 0 ++ ws) a n newCore mem ≡ readFrom ws a n c mem
@@ -156,7 +153,7 @@ module _ (v : ℕ) (vs : List ℕ) (later : Reads vs) (pre : List ℕ) (a total 
     reads-zero : v ≡ 0 → Goal
     unfolding Goal
     reads-zero z =
-        let k = counts-none v z .0 in
+        let k = counts-none v z .is in
         rw (at-zero a b v z)
         (ap (λ (u : ℕ). readFrom (stretchesFrom (a + 1) v vs ++ endRecord total ∷ []) x n c (pre ++ u ∷ replicate (length vs) 0)) (sym z)
         ∙ reads-later x n (λ q. absurd (q z)) (omega arith))
@@ -164,7 +161,7 @@ module _ (v : ℕ) (vs : List ℕ) (later : Reads vs) (pre : List ℕ) (a total 
     reads-first : (v ≡ 0 → ⊥) → b ≡ 0 → Goal
     unfolding Goal
     reads-first z w =
-        let k = counts-one v z .0 in
+        let k = counts-one v z .is in
         let more = stretchesFrom (a + 1) v vs ++ endRecord total ∷ [] in
         let zeros : List ℕ = replicate (length vs) 0 in
         rw (at-first a b v z w)
@@ -174,7 +171,7 @@ module _ (v : ℕ) (vs : List ℕ) (later : Reads vs) (pre : List ℕ) (a total 
     reads-within : (v ≡ 0 → ⊥) → (b ≡ 0 → ⊥) → Goal
     unfolding Goal
     reads-within z w =
-        let k = counts-one v z .0 in
+        let k = counts-one v z .is in
         let more = stretchesFrom (a + 1) v vs ++ endRecord total ∷ [] in
         rw (at-within a b v z w)
         (read-here more pre (replicate (length vs) 0) x a n v c e (p w) (h 0) ∙ reads-later (a + 1) (n + 1) (λ q. refl) (omega arith))
@@ -198,4 +195,4 @@ unfolding wordsIn
 words-few [] = omega arith
 words-few (v ∷ vs) =
     let more = words-few vs in
-    by-test (eqb v 0) (λ z. let k = counts-none v (eqb-true v 0 z) .0 in omega arith) (λ z. let k = counts-one v (eqb-false v 0 z) .0 in omega arith)
+    by-test (eqb v 0) (λ z. let k = counts-none v (eqb-true v 0 z) .is in omega arith) (λ z. let k = counts-one v (eqb-false v 0 z) .is in omega arith)

@@ -12,8 +12,10 @@ use borrow.Author.Tests.{le-ltb, ne-eqb}
 use Rattle.instructions.specs.Choice.{if_then_else_}
 use Rattle.emulator.specs.declared.core.Core.{Core}
 use Rattle.emulator.specs.Core.{newCore}
-use Rattle.sheet.specs.Outcome.{Outcome}
-use Rattle.sheet.specs.Load.{Left, refusedWith, refusedLength, Reading, readFrom, sheetReads, settled, loadSheetOf}
+use Rattle.emulator.specs.Memory.{refusedLength}
+use Rattle.sheet.specs.declared.load.Loaded.{Loaded}
+use Rattle.sheet.specs.declared.write.Written.{Written}
+use Rattle.sheet.specs.Load.{Left, refusedWith, Reading, readFrom, sheetReads, settled, loadSheetOf}
 use Rattle.sheet.specs.Write.{Wrote, wrote, endRecord, presetsFrom, stretchesFrom, wordsIn, sheetOf, writeSheetOf}
 use Rattle.sheet.specs.RoundTrip.{Words, WholeCore, RoundTrip}
 use Rattle.sheet.proofs.ReadBack.{read-presets, read-stretches, words-few}
@@ -36,7 +38,7 @@ unfolding loadSheetOf
 round-trip c mem held h w l m e = rw (e, not-refused (length mem) l m, accepted c mem h w m)
 
 -- the number that the writer answers is the sheet's length, and as many records at the front of the buffer are the sheet
-pub written : (c : Core) (mem s : List ℕ) (n : ℕ) → writeSheetOf c mem s .outcome ≡ Outcome.records n
+pub written : (c : Core) (mem s : List ℕ) (n : ℕ) → writeSheetOf c mem s .answer ≡ Written.Records n
     → (n ≡ length (sheetOf c mem)) × (take n (writeSheetOf c mem s .buffer) ≡ sheetOf c mem)
 unfolding writeSheetOf
 written c mem s n = go (refusedLength (length mem)) (ltb (length s) (length (sheetOf c mem)))
@@ -45,22 +47,22 @@ written c mem s n = go (refusedLength (length mem)) (ltb (length s) (length (she
     sheet = sheetOf c mem
 
     at : Bool → Bool → Wrote
-    at a b = if a then wrote (Outcome.refused 1) s else if b then wrote (Outcome.refused 4) s else wrote (Outcome.records (length sheet)) (sheet ++ drop (length sheet) s)
+    at a b = if a then wrote (Written.Refused 1) s else if b then wrote (Written.Refused 4) s else wrote (Written.Records (length sheet)) (sheet ++ drop (length sheet) s)
 
-    go : (a b : Bool) → at a b .outcome ≡ Outcome.records n → (n ≡ length sheet) × (take n (at a b .buffer) ≡ sheet)
+    go : (a b : Bool) → at a b .answer ≡ Written.Records n → (n ≡ length sheet) × (take n (at a b .buffer) ≡ sheet)
     go true b e = let z : _≡_ {A = ℕ} 0 1 = cc in absurd (omega arith)
     go false true e = let z : _≡_ {A = ℕ} 0 1 = cc in absurd (omega arith)
     go false false e = let k : n ≡ length sheet = cc in (k, rw (k, take-append-seam sheet (drop (length sheet) s)))
 
 -- what an accepted sheet does depends on memory's length alone
-pub same-load : (sheet m m′ : List ℕ) → loadSheetOf sheet m .outcome ≡ Outcome.done → length m′ ≡ length m → loadSheetOf sheet m′ ≡ loadSheetOf sheet m
+pub same-load : (sheet m m′ : List ℕ) → loadSheetOf sheet m .answer ≡ Loaded.Done → length m′ ≡ length m → loadSheetOf sheet m′ ≡ loadSheetOf sheet m
 unfolding loadSheetOf
 same-load sheet m m′ o e = rw e (go (refusedLength (length m)) (sheetReads sheet (length m)) o)
   where
     at : List ℕ → Bool → Reading → Left
     at l a r = if a then refusedWith 1 l else settled l r
 
-    go : (a : Bool) (r : Reading) → at m a r .outcome ≡ Outcome.done → at m′ a r ≡ at m a r
+    go : (a : Bool) (r : Reading) → at m a r .answer ≡ Loaded.Done → at m′ a r ≡ at m a r
     go true r q = let z : _≡_ {A = ℕ} 0 1 = cc in absurd (omega arith)
     go false (Reading.gives c l) q = refl
     go false (Reading.fails k) q = let z : _≡_ {A = ℕ} 0 1 = cc in absurd (omega arith)

@@ -12,12 +12,12 @@ use borrow.Author.Tests.{lt-ltb, le-ltb, ltb-true, eq-eqb, ne-eqb}
 use Rattle.instructions.specs.Choice.{if_then_else_}
 use Rattle.emulator.specs.declared.core.Core.{Core}
 use Rattle.emulator.specs.Core.{newCore}
+use Rattle.emulator.specs.Memory.{refusedLength}
 use Rattle.sheet.specs.declared.load.Loaded.{Loaded}
 use Rattle.sheet.specs.declared.fields.Record.{Record}
 use Rattle.sheet.specs.declared.fields.Record.the-variants.{Place, Word, Preset, End, Refused}
-use Rattle.sheet.specs.Outcome.{Outcome}
 use Rattle.sheet.specs.Record.{recordOf, withRegister}
-use Rattle.sheet.specs.Load.{left, refusedWith, refusedLength, Reading, closed, recordReads, readFrom, sheetReads, testedOf, settled, loadSheetOf}
+use Rattle.sheet.specs.Load.{left, refusedWith, Reading, closed, recordReads, readFrom, sheetReads, testedOf, settled, loadSheetOf}
 
 -- i records were read, and what is left of the sheet reads as the whole
 pub record Underway (sheet : List ℕ) (size a n : ℕ) (c : Core) (mem : List ℕ) (i : ℕ) : Type 0 where
@@ -196,12 +196,12 @@ pub sheet-passed : {o p : Loaded} → o ≡ p → o ≡ Loaded.Done → Loaded.D
 sheet-passed e q = sym q ∙ e
 
 module _ (sheet mem : List ℕ) {b : Bool} (asked : b ≡ refusedLength (length mem)) where
-  pub sheet-host : {c : Core} → c ≡ newCore → b ≡ true → left (Outcome.refused 1) c mem ≡ loadSheetOf sheet mem
+  pub sheet-host : {c : Core} → c ≡ newCore → b ≡ true → left (Loaded.Refused 1) c mem ≡ loadSheetOf sheet mem
   unfolding loadSheetOf
   sheet-host f e = rw (f, ← asked, e)
 
   pub sheet-refused : {c : Core} {o : Loaded} {k : ℕ} → c ≡ newCore → b ≡ false → o ≡ testedOf (sheetReads sheet (length mem)) → o ≡ Loaded.Refused k
-      → left (Outcome.refused k) c mem ≡ loadSheetOf sheet mem
+      → left (Loaded.Refused k) c mem ≡ loadSheetOf sheet mem
   unfolding loadSheetOf
   sheet-refused {c} {o} {k} f e p q = rw (f, ← asked, e) (go (sheetReads sheet (length mem)) (sym q ∙ p))
     where
@@ -209,6 +209,6 @@ module _ (sheet mem : List ℕ) {b : Bool} (asked : b ≡ refusedLength (length 
       go (Reading.gives d m) x = let z : _≡_ {A = ℕ} 0 1 = cc in absurd (omega arith)
       go (Reading.fails j) x = let y : k ≡ j = cc in rw y
 
-  pub sheet-done : {c : Core} {mem′ : List ℕ} → b ≡ false → Reading.gives c mem′ ≡ sheetReads sheet (length mem) → left Outcome.done c mem′ ≡ loadSheetOf sheet mem
+  pub sheet-done : {c : Core} {mem′ : List ℕ} → b ≡ false → Reading.gives c mem′ ≡ sheetReads sheet (length mem) → left Loaded.Done c mem′ ≡ loadSheetOf sheet mem
   unfolding loadSheetOf
   sheet-done e p = rw (← asked, e, ← p)

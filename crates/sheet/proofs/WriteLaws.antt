@@ -10,11 +10,12 @@ use lib.ListN.{length, getD, set, drop, length-set, length-append, drop-of-lengt
 use lib.Seq.{sets, drop-cons, length-sets}
 use lib.Dec.{eqb, ltb}
 use borrow.Author.Tests.{lt-ltb, le-ltb, eq-eqb, ne-eqb, ltb-false}
+use Rattle.instructions.specs.Bounded.{Bounded}
 use Rattle.instructions.specs.Choice.{if_then_else_}
 use Rattle.emulator.specs.declared.core.Core.{Core}
-use Rattle.sheet.specs.Outcome.{Outcome}
+use Rattle.emulator.specs.Memory.{refusedLength}
+use Rattle.sheet.specs.declared.write.Written.{Written}
 use Rattle.sheet.specs.Record.{registerOf}
-use Rattle.sheet.specs.Load.{refusedLength}
 use Rattle.sheet.specs.Write.{wrote, placeRecord, wordRecord, presetRecord, endRecord, presetsFrom, recordsAt, stretchesFrom, nonzero, wordsIn, sheetOf, writeSheetOf}
 use Rattle.sheet.proofs.Stores.{sets-append, sets-front}
 
@@ -44,23 +45,23 @@ module _ (a b v : ℕ) where
       go false false = refl
 
 module _ (b v : ℕ) where
-  pub needs-none : v ≡ 0 → (0 ≡ length (recordsAt 0 b v)) × (0 ≤ 2)
-  needs-none z = (rw (at-zero 0 b v z), omega arith)
+  pub needs-none : v ≡ 0 → Bounded 0 (length (recordsAt 0 b v)) 3
+  needs-none z = record { is = rw (at-zero 0 b v z); below = omega arith }
 
-  pub needs-two : (v ≡ 0 → ⊥) → b ≡ 0 → (2 ≡ length (recordsAt 0 b v)) × (2 ≤ 2)
-  needs-two n z = (rw (at-first 0 b v n z), omega arith)
+  pub needs-two : (v ≡ 0 → ⊥) → b ≡ 0 → Bounded 2 (length (recordsAt 0 b v)) 3
+  needs-two n z = record { is = rw (at-first 0 b v n z); below = omega arith }
 
-  pub needs-one : (v ≡ 0 → ⊥) → (b ≡ 0 → ⊥) → (1 ≡ length (recordsAt 0 b v)) × (1 ≤ 2)
-  needs-one n m = (rw (at-within 0 b v n m), omega arith)
+  pub needs-one : (v ≡ 0 → ⊥) → (b ≡ 0 → ⊥) → Bounded 1 (length (recordsAt 0 b v)) 3
+  needs-one n m = record { is = rw (at-within 0 b v n m); below = omega arith }
 
 module _ (v : ℕ) where
-  pub counts-none : v ≡ 0 → (0 ≡ nonzero v) × (0 ≤ 1)
+  pub counts-none : v ≡ 0 → Bounded 0 (nonzero v) 2
   unfolding nonzero
-  counts-none z = (rw (eq-eqb v 0 z), omega arith)
+  counts-none z = record { is = rw (eq-eqb v 0 z); below = omega arith }
 
-  pub counts-one : (v ≡ 0 → ⊥) → (1 ≡ nonzero v) × (1 ≤ 1)
+  pub counts-one : (v ≡ 0 → ⊥) → Bounded 1 (nonzero v) 2
   unfolding nonzero
-  counts-one n = (rw (ne-eqb v 0 n), omega arith)
+  counts-one n = record { is = rw (ne-eqb v 0 n); below = omega arith }
 
 module _ (s : List ℕ) (at a b v : ℕ) where
   pub put-none : v ≡ 0 → (at ≡ at + length (recordsAt a b v)) × (s ≡ sets s at (recordsAt a b v))
@@ -102,20 +103,21 @@ pub record Counting (mem : List ℕ) (n b i : ℕ) : Type 0 where
 pub counting-start : (mem : List ℕ) → Counting mem 0 0 0
 counting-start mem = record { within = omega arith; few = omega arith; rest = zero-add (length (stretchesFrom 0 0 mem)) }
 
-pub counting-next : (mem : List ℕ) (n b i k : ℕ) → Counting mem n b i → i < length mem → k ≡ length (recordsAt 0 b (getD mem i 0)) → k ≤ 2
+pub counting-next : (mem : List ℕ) (n b i k : ℕ) → Counting mem n b i → i < length mem → Bounded k (length (recordsAt 0 b (getD mem i 0))) 3
     → Counting mem (n + k) (getD mem i 0) (i + 1)
-counting-next mem n b i k c l e m =
+counting-next mem n b i k c l m =
     let f = c .few in
     let r = c .rest in
     let same = as-many i b (getD mem i 0) in
     let next = ap length (stretch mem i l b) ∙ length-append (recordsAt i b (getD mem i 0)) (stretchesFrom (i + 1) (getD mem i 0) (drop (i + 1) mem)) in
     record { within = omega arith; few = omega arith; rest = omega arith }
 
-pub counting-done : (mem : List ℕ) (n b i : ℕ) → Counting mem n b i → length mem ≤ i → n ≡ length (stretchesFrom 0 0 mem)
+pub counting-done : (mem : List ℕ) (n b i : ℕ) → Counting mem n b i → length mem ≤ i
+    → Bounded n (length (stretchesFrom 0 0 mem)) (length mem * 2 + 1)
 unfolding stretchesFrom
 counting-done mem n b i c l =
     let r = rw (drop-of-length-le mem l) at (c .rest) in
-    omega arith
+    record { is = omega arith; below = omega (arith, c .few, c .within) }
 
 -- counting the words
 pub record Summing (mem : List ℕ) (n i : ℕ) : Type 0 where
@@ -126,18 +128,18 @@ pub record Summing (mem : List ℕ) (n i : ℕ) : Type 0 where
 pub summing-start : (mem : List ℕ) → Summing mem 0 0
 summing-start mem = record { within = omega arith; few = omega arith; rest = zero-add (wordsIn mem) }
 
-pub summing-next : (mem : List ℕ) (n i k : ℕ) → Summing mem n i → i < length mem → k ≡ nonzero (getD mem i 0) → k ≤ 1 → Summing mem (n + k) (i + 1)
-summing-next mem n i k c l e m =
+pub summing-next : (mem : List ℕ) (n i k : ℕ) → Summing mem n i → i < length mem → Bounded k (nonzero (getD mem i 0)) 2 → Summing mem (n + k) (i + 1)
+summing-next mem n i k c l m =
     let f = c .few in
     let r = c .rest in
     let next = words-next mem i l in
     record { within = omega arith; few = omega arith; rest = omega arith }
 
-pub summing-done : (mem : List ℕ) (n i : ℕ) → Summing mem n i → length mem ≤ i → n ≡ wordsIn mem
+pub summing-done : (mem : List ℕ) (n i : ℕ) → Summing mem n i → length mem ≤ i → length mem ≤ 65536 → Bounded n (wordsIn mem) 65537
 unfolding wordsIn
-summing-done mem n i c l =
+summing-done mem n i c l most =
     let r = rw (drop-of-length-le mem l) at (c .rest) in
-    omega arith
+    record { is = omega arith; below = omega (arith, c .few, c .within) }
 
 -- the presets
 pub record Presetting (c : Core) (s₀ s : List ℕ) (r : ℕ) : Type 0 where
@@ -215,12 +217,12 @@ sheet-put c mem s = rw (length-presets c) at (three-runs (presetsFrom c 12 0) (s
 
 -- writing a sheet
 module _ (c : Core) (mem s : List ℕ) {a : Bool} (asked : a ≡ refusedLength (length mem)) where
-  pub write-host : a ≡ true → wrote (Outcome.refused 1) s ≡ writeSheetOf c mem s
+  pub write-host : a ≡ true → wrote (Written.Refused 1) s ≡ writeSheetOf c mem s
   unfolding writeSheetOf
   write-host e = rw (← asked, e)
 
   module _ {n : ℕ} (e : a ≡ false) (counted : n ≡ length (stretchesFrom 0 0 mem)) where
-    pub write-short : length s ≤ 12 + n → wrote (Outcome.refused 4) s ≡ writeSheetOf c mem s
+    pub write-short : length s ≤ 12 + n → wrote (Written.Refused 4) s ≡ writeSheetOf c mem s
     unfolding writeSheetOf
     write-short l =
         let size = length-sheet c mem in
@@ -228,7 +230,7 @@ module _ (c : Core) (mem s : List ℕ) {a : Bool} (asked : a ≡ refusedLength (
         rw (← asked, e, lt-ltb (length s) (length (sheetOf c mem)) short)
 
     pub write-done : {w : ℕ} {s₁ s₂ : List ℕ} → w ≡ wordsIn mem → 12 + n < length s → s₁ ≡ sets s 0 (presetsFrom c 12 0) → s₂ ≡ sets s₁ 12 (stretchesFrom 0 0 mem)
-        → wrote (Outcome.records (12 + n + 1)) (set s₂ (12 + n) (endRecord w)) ≡ writeSheetOf c mem s
+        → wrote (Written.Records (12 + n + 1)) (set s₂ (12 + n) (endRecord w)) ≡ writeSheetOf c mem s
     unfolding writeSheetOf
     write-done f l p q =
         let size : length (sheetOf c mem) ≡ 12 + n + 1 = length-sheet c mem ∙ ap (λ (k : ℕ). 12 + k + 1) (sym counted) in

@@ -4,8 +4,8 @@ use mathlib.Core.List.{List, [], _∷_}
 use lib.ListN.{length}
 use lib.Dec.{ltb, eqb}
 use Rattle.instructions.specs.Choice.{if_then_else_}
-use Rattle.sheet.specs.Outcome.{Outcome}
-use Rattle.sheet.specs.Write.{Wrote, wrote, putFirst}
+use Rattle.sheet.specs.declared.write.Written.{Written}
+use Rattle.sheet.specs.Write.{Wrote, wrote, inFront}
 
 abbrev pub lowFirst : ℕ → ℕ → ℕ → ℕ → ℕ
 lowFirst a b c d = a + b * 2 ^ 8 + c * 2 ^ 16 + d * 2 ^ 24
@@ -17,9 +17,12 @@ recordsOf (a ∷ b ∷ []) = []
 recordsOf (a ∷ b ∷ c ∷ []) = []
 recordsOf (a ∷ b ∷ c ∷ d ∷ bytes) = lowFirst a b c d ∷ recordsOf bytes
 
--- 27, not whole 32-bit words or above 32,768 bytes; 4, the buffer is too short
+-- 27, not whole 32-bit words or above 32,768 bytes; 0, no test refuses
+unfoldable pub inputRefusal : List ℕ → ℕ
+inputRefusal bytes = if eqb (length bytes % 4) 0 then (if ltb 32768 (length bytes) then 27 else 0) else 27
+
+-- the records of an input, put at the front of a buffer that has room for them
 unfoldable pub inputOf : List ℕ → List ℕ → Wrote
 inputOf bytes out =
-    if eqb (length bytes % 4) 0 then
-    (if ltb 32768 (length bytes) then wrote (Outcome.refused 27) out else putFirst (recordsOf bytes) out)
-    else wrote (Outcome.refused 27) out
+    if eqb (inputRefusal bytes) 0 then inFront (recordsOf bytes) out
+    else wrote (Written.Refused (inputRefusal bytes)) out

@@ -1,4 +1,3 @@
-pub mod Outcome
 pub mod Record
 pub mod Load
 pub mod Write

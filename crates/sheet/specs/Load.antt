@@ -1,41 +1,36 @@
 -- Loading (document 01, The rule sheet; Stops).
 use Prim.Native.Nat.{ℕ, _+_, _-_}
-use mathlib.Core.Bool.{Bool, true}
 use mathlib.Core.List.{List, [], _∷_, _++_}
 use lib.ListN.{length, set, replicate}
 use lib.Dec.{ltb, eqb}
 use Rattle.instructions.specs.Choice.{if_then_else_}
 use Rattle.emulator.specs.declared.core.Core.{Core}
 use Rattle.emulator.specs.Core.{newCore}
+use Rattle.emulator.specs.Memory.{refusedLength}
 use Rattle.sheet.specs.declared.load.Loaded.{Loaded}
 use Rattle.sheet.specs.declared.fields.Record.{Record}
 use Rattle.sheet.specs.declared.fields.Record.the-variants.{Place, Word, Preset, End, Refused}
-use Rattle.sheet.specs.Outcome.{Outcome}
 use Rattle.sheet.specs.Record.{recordOf, withRegister}
 
--- what a load leaves: how it came out, the core, and what the lent memory holds
+-- what a load leaves: its answer, the core, and what the lent memory holds
 pub record Left : Type 0 where
-  pub outcome : Outcome
+  pub answer : Loaded
   pub core : Core
   pub memory : List ℕ
 
-abbrev pub left : Outcome → Core → List ℕ → Left
-left o c mem = record { outcome = o; core = c; memory = mem }
+abbrev pub left : Loaded → Core → List ℕ → Left
+left x c mem = record { answer = x; core = c; memory = mem }
 
 -- a refused load hands back a fresh core and changes nothing
 abbrev pub refusedWith : ℕ → List ℕ → Left
-refusedWith n mem = left (Outcome.refused n) newCore mem
+refusedWith n mem = left (Loaded.Refused n) newCore mem
 
--- memory is a list of 1 to 65,536 words; any other length is refused with 1
-unfoldable pub refusedLength : ℕ → Bool
-refusedLength n = if eqb n 0 then true else ltb 65536 n
-
--- a plain word list (`with_content`): 3, it is longer than memory; else memory is the words from address 0 on, and 0 past them
+-- a plain word list (`with_content`): host test 1; 3, it is longer than memory; else memory is the words from address 0 on, and 0 past them
 unfoldable pub loadWordsOf : List ℕ → List ℕ → Left
 loadWordsOf words mem =
     if refusedLength (length mem) then refusedWith 1 mem
     else if ltb (length mem) (length words) then refusedWith 3 mem
-    else left Outcome.done newCore (words ++ replicate (length mem - length words) 0)
+    else left Loaded.Done newCore (words ++ replicate (length mem - length words) 0)
 
 -- what a sheet gives: the core and the memory that it describes, or the number of the first test that failed
 pub data Reading : Type 0 where
@@ -70,7 +65,7 @@ testedOf (Reading.gives c mem) = Loaded.Done
 testedOf (Reading.fails k) = Loaded.Refused k
 
 abbrev pub settled : List ℕ → Reading → Left
-settled mem (Reading.gives c mem′) = left Outcome.done c mem′
+settled mem (Reading.gives c mem′) = left Loaded.Done c mem′
 settled mem (Reading.fails k) = refusedWith k mem
 
 -- a rule sheet: host test 1, then the sheet

@@ -1,11 +1,10 @@
 -- A record of a rule sheet (document 01, The rule sheet): a 32-bit word, bits 31..28 the kind.
-use Prim.Native.Nat.{ℕ, _/_, _%_, _^_}
-use lib.ListN.{getD, set}
+use Prim.Native.Nat.{ℕ, _-_, _/_, _%_, _^_}
 use lib.Dec.{ltb, eqb}
 use Rattle.instructions.specs.Choice.{if_then_else_}
-use Rattle.instructions.specs.declared.reg.SpecialPurposeRegister.the-variants.{IP, RP, SP, EF}
+use Rattle.instructions.specs.Reg.{gprAt, sprAt}
 use Rattle.emulator.specs.declared.core.Core.{Core}
-use Rattle.emulator.specs.Core.{writeSpr}
+use Rattle.emulator.specs.Core.{readGpr, writeGpr, readSpr, writeSpr}
 use Rattle.sheet.specs.declared.fields.Record.{Record}
 use Rattle.sheet.specs.declared.fields.Record.the-variants.{Place, Word, Preset, End, Refused}
 
@@ -40,17 +39,7 @@ recordOf w =
 
 -- a register by its number, 0 to 7 general, 8 ip, 9 rp, 10 sp, 11 ef, and the core with it changed
 unfoldable pub registerOf : Core → ℕ → ℕ
-registerOf c r =
-    if ltb r 8 then getD (c .gprs) r 0
-    else if eqb r 8 then c .ip
-    else if eqb r 9 then c .rp
-    else if eqb r 10 then c .sp
-    else c .ef
+registerOf c n = if ltb n 8 then readGpr c (gprAt n) else readSpr c (sprAt (n - 8))
 
 unfoldable pub withRegister : Core → ℕ → ℕ → Core
-withRegister c r v =
-    if ltb r 8 then record { gprs = set (c .gprs) r v; ip = c .ip; rp = c .rp; sp = c .sp; ef = c .ef }
-    else if eqb r 8 then writeSpr c IP v
-    else if eqb r 9 then writeSpr c RP v
-    else if eqb r 10 then writeSpr c SP v
-    else writeSpr c EF v
+withRegister c n v = if ltb n 8 then writeGpr c (gprAt n) v else writeSpr c (sprAt (n - 8)) v

@@ -5,7 +5,7 @@ use mathlib.Core.List.{List}
 use mathlib.Core.Path.{_≡_}
 use lib.ListN.{length, getD}
 use Rattle.emulator.specs.declared.core.Core.{Core}
-use Rattle.sheet.specs.Outcome.{Outcome}
+use Rattle.sheet.specs.declared.load.Loaded.{Loaded}
 use Rattle.sheet.specs.Load.{left, loadSheetOf}
 use Rattle.sheet.specs.Write.{sheetOf}
 
@@ -24,4 +24,4 @@ pub record WholeCore (c : Core) : Type 0 where
 abbrev pub RoundTrip : Type 0
 RoundTrip =
     (c : Core) (mem held : List ℕ) → WholeCore c → Words mem → 1 ≤ length mem → length mem ≤ 65536 → length held ≡ length mem
-    → loadSheetOf (sheetOf c mem) held ≡ left Outcome.done c mem
+    → loadSheetOf (sheetOf c mem) held ≡ left Loaded.Done c mem

@@ -5,23 +5,21 @@ use lib.ListN.{length, drop}
 use lib.Dec.{ltb, eqb}
 use Rattle.instructions.specs.Choice.{if_then_else_}
 use Rattle.emulator.specs.declared.core.Core.{Core}
-use Rattle.sheet.specs.Outcome.{Outcome}
+use Rattle.emulator.specs.Memory.{refusedLength}
+use Rattle.sheet.specs.declared.write.Written.{Written}
 use Rattle.sheet.specs.Record.{registerOf}
-use Rattle.sheet.specs.Load.{refusedLength}
 
--- what a write leaves: how it came out, and what the lent buffer holds
+-- what a write leaves: its answer, and what the lent buffer holds
 pub record Wrote : Type 0 where
-  pub outcome : Outcome
+  pub answer : Written
   pub buffer : List ℕ
 
-abbrev pub wrote : Outcome → List ℕ → Wrote
-wrote o b = record { outcome = o; buffer = b }
+abbrev pub wrote : Written → List ℕ → Wrote
+wrote x b = record { answer = x; buffer = b }
 
--- records put at the front of the buffer, which is unchanged past them; 4, it is too short
-abbrev pub putFirst : List ℕ → List ℕ → Wrote
-putFirst rs buffer =
-    if ltb (length buffer) (length rs) then wrote (Outcome.refused 4) buffer
-    else wrote (Outcome.records (length rs)) (rs ++ drop (length rs) buffer)
+-- records put at the front of the buffer, which is unchanged past them
+abbrev pub inFront : List ℕ → List ℕ → Wrote
+inFront rs buffer = wrote (Written.Records (length rs)) (rs ++ drop (length rs) buffer)
 
 -- the four kinds of record
 abbrev pub placeRecord : ℕ → ℕ
@@ -65,6 +63,9 @@ wordsIn (v ∷ vs) = nonzero v + wordsIn vs
 unfoldable pub sheetOf : Core → List ℕ → List ℕ
 sheetOf c mem = presetsFrom c 12 0 ++ stretchesFrom 0 0 mem ++ endRecord (wordsIn mem) ∷ []
 
--- writing it: host test 1, then 4
+-- writing it: host test 1; 4, the buffer is too short
 unfoldable pub writeSheetOf : Core → List ℕ → List ℕ → Wrote
-writeSheetOf c mem sheet = if refusedLength (length mem) then wrote (Outcome.refused 1) sheet else putFirst (sheetOf c mem) sheet
+writeSheetOf c mem sheet =
+    if refusedLength (length mem) then wrote (Written.Refused 1) sheet
+    else if ltb (length sheet) (length (sheetOf c mem)) then wrote (Written.Refused 4) sheet
+    else inFront (sheetOf c mem) sheet

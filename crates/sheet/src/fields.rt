@@ -1,5 +1,6 @@
 // The fields of a record, and the register that a preset names.
 use emulator::Core;
+use instructions::GPR;
 use instructions::SPR;
 ghost use mathlib.Core.Path.{_≡_};
 ghost use Rattle.sheet.specs.Record.{recordOf, registerOf, withRegister};
@@ -8,7 +9,7 @@ pub enum Record {
     Place(u16),
     Word(u16),
     // The register's number, and its value.
-    Preset(usize, u16),
+    Preset(u8, u16),
     // The number of word records.
     End(u32),
     // No record: the number of the test that failed.
@@ -39,7 +40,7 @@ pub fn record_of(w: u32) -> Record
         if above20 != 0 {
             return Record::Refused(21);
         }
-        let register = (w / 0x10000 % 0x10) as usize;
+        let register = (w / 0x10000 % 0x10) as u8;
         if 11 < register {
             return Record::Refused(22);
         }
@@ -52,40 +53,23 @@ pub fn record_of(w: u32) -> Record
 }
 
 // The register of that number: 0 to 7 general, 8 ip, 9 rp, 10 sp, 11 ef.
-pub fn register(core: Core, number: usize) -> u16
+pub fn register(core: Core, number: u8) -> u16
     ensures { λ r. ⌜ r ≡ registerOf core number ⌝ }
 {
     if number < 8 {
-        return core.gprs[number];
+        core.read_gpr(GPR::from_low_bits(number))
+    } else {
+        core.read_spr(SPR::from_low_bits(number - 8))
     }
-    if number == 8 {
-        return core.ip;
-    }
-    if number == 9 {
-        return core.rp;
-    }
-    if number == 10 {
-        return core.sp;
-    }
-    core.ef
 }
 
 // The core with that register changed.
-pub fn with_register(mut core: Core, number: usize, value: u16) -> Core
+pub fn with_register(core: Core, number: u8, value: u16) -> Core
     ensures { λ r. ⌜ r ≡ withRegister core number value ⌝ }
 {
     if number < 8 {
-        core.gprs[number] = value;
-        return core;
+        core.write_gpr(GPR::from_low_bits(number), value)
+    } else {
+        core.write_spr(SPR::from_low_bits(number - 8), value)
     }
-    if number == 8 {
-        return core.write_spr(SPR::IP, value);
-    }
-    if number == 9 {
-        return core.write_spr(SPR::RP, value);
-    }
-    if number == 10 {
-        return core.write_spr(SPR::SP, value);
-    }
-    core.write_spr(SPR::EF, value)
 }

@@ -4,7 +4,6 @@ ghost use mathlib.Core.Path.{_≡_};
 ghost use Prim.Native.Nat.{_≤_, _%_, _*_};
 ghost use lib.ListN.{length};
 ghost use lib.Seq.{sets};
-ghost use Rattle.sheet.specs.Outcome.{writtenOf};
 ghost use Rattle.sheet.specs.Write.{wrote};
 ghost use Rattle.sheet.specs.Input.{lowFirst, recordsOf, inputOf};
 
@@ -29,20 +28,16 @@ fn put_records(bytes: &[u8], out: &mut [u32])
     }
 }
 
-// The records of a program's input, put into `out`, and how many they are. Room for 8,192 is always enough.
-pub fn records(bytes: &[u8], out: &mut [u32]) -> Written
-    ensures { λ r. ⌜ wrote (writtenOf r) (now (out .exit)) ≡ inputOf (now (bytes .entry)) (now (out .entry)) ⌝ }
+// The records of a program's input, put into `out`, and how many they are. The longest input has 8,192.
+pub fn records(bytes: &[u8], out: &mut [u32; 8192]) -> Written
+    ensures { λ r. ⌜ wrote r (now (out .exit)) ≡ inputOf (now (bytes .entry)) (now (out .entry)) ⌝ }
 {
-    let count = bytes.len() / 4;
     if bytes.len() % 4 != 0 {
         return Written::Refused(27);
     }
     if 32768 < bytes.len() {
         return Written::Refused(27);
     }
-    if out.len() < count {
-        return Written::Refused(4);
-    }
     put_records(bytes, out);
-    Written::Records(count)
+    Written::Records(bytes.len() / 4)
 }

@@ -5,10 +5,9 @@ use crate::fields::with_register;
 use crate::memory::clear;
 use crate::memory::copy;
 use crate::memory::put;
-use crate::memory::refuses;
 use emulator::Core;
+use emulator::refuses_length;
 ghost use mathlib.Core.Path.{_≡_};
-ghost use Rattle.sheet.specs.Outcome.{loadedOf};
 ghost use lib.ListN.{length};
 ghost use Rattle.sheet.specs.Load.{left, loadWordsOf, Reading, sheetReads, testedOf, loadSheetOf};
 
@@ -25,9 +24,9 @@ pub struct Load {
 
 // Loads a plain word list: memory becomes the words from address 0 on, and 0 past them.
 pub fn load_words(words: &[u16], memory: &mut [u16]) -> Load
-    ensures { λ r. ⌜ left (loadedOf (r .answer)) (r .core) (now (memory .exit)) ≡ loadWordsOf (now (words .entry)) (now (memory .entry)) ⌝ }
+    ensures { λ r. ⌜ left (r .answer) (r .core) (now (memory .exit)) ≡ loadWordsOf (now (words .entry)) (now (memory .entry)) ⌝ }
 {
-    if refuses(memory.len()) {
+    if refuses_length(memory.len()) {
         return Load {
             core: Core::new(),
             answer: Loaded::Refused(1),
@@ -121,9 +120,9 @@ fn apply_sheet(sheet: &[u32], memory: &mut [u16]) -> Core
 
 // Loads a rule sheet. A refused one changes nothing.
 pub fn load_sheet(sheet: &[u32], memory: &mut [u16]) -> Load
-    ensures { λ r. ⌜ left (loadedOf (r .answer)) (r .core) (now (memory .exit)) ≡ loadSheetOf (now (sheet .entry)) (now (memory .entry)) ⌝ }
+    ensures { λ r. ⌜ left (r .answer) (r .core) (now (memory .exit)) ≡ loadSheetOf (now (sheet .entry)) (now (memory .entry)) ⌝ }
 {
-    if refuses(memory.len()) {
+    if refuses_length(memory.len()) {
         return Load {
             core: Core::new(),
             answer: Loaded::Refused(1),

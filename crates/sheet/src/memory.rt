@@ -1,19 +1,8 @@
-// Lent memory: the host test of its length, and what fills it.
+// What fills lent memory.
 ghost use mathlib.Core.Path.{_≡_};
 ghost use Prim.Native.Nat.{_+_, _≤_, _<_};
 ghost use lib.ListN.{length, replicate, set};
 ghost use lib.Seq.{sets};
-ghost use Rattle.sheet.specs.Load.{refusedLength};
-
-// Host test 1: whether memory has no word, or more than 65,536.
-pub fn refuses(words: usize) -> bool
-    ensures { λ r. ⌜ r ≡ refusedLength words ⌝ }
-{
-    if words == 0 {
-        return true;
-    }
-    65536 < words
-}
 
 // Sets every word to 0.
 pub fn clear(memory: &mut [u16])

@@ -1,12 +1,12 @@
 // Writing a rule sheet.
 use crate::fields::register;
-use crate::memory::refuses;
 use emulator::Core;
+use emulator::refuses_length;
 ghost use mathlib.Core.Path.{_≡_};
 ghost use Prim.Native.Nat.{_+_, _*_, _≤_, _<_};
 ghost use lib.ListN.{length};
 ghost use lib.Seq.{sets};
-ghost use Rattle.sheet.specs.Outcome.{writtenOf};
+ghost use Rattle.instructions.specs.Bounded.{Bounded};
 ghost use Rattle.sheet.specs.Write.{wrote, presetRecord, presetsFrom, recordsAt, stretchesFrom, nonzero, wordsIn, writeSheetOf};
 
 // What a write comes to: the number of records written, or refused with the number of the test that failed.
@@ -17,7 +17,7 @@ pub enum Written {
 
 // How many records a word takes after the word before it.
 fn needed(before: u16, word: u16) -> usize
-    ensures { λ r. ⌜ (r ≡ length (recordsAt 0 before word)) × (r ≤ 2) ⌝ }
+    ensures { λ r. ⌜ Bounded r (length (recordsAt 0 before word)) 3 ⌝ }
 {
     if word == 0 {
         return 0;
@@ -27,7 +27,7 @@ fn needed(before: u16, word: u16) -> usize
 
 // How many records the stretches of nonzero words take.
 fn count_records(memory: &[u16]) -> usize
-    ensures { λ r. ⌜ (r ≡ length (stretchesFrom 0 0 (now (memory .entry)))) × (r ≤ length (now (memory .entry)) * 2) ⌝ }
+    ensures { λ r. ⌜ Bounded r (length (stretchesFrom 0 0 (now (memory .entry)))) (length (now (memory .entry)) * 2 + 1) ⌝ }
 {
     let mut count = 0;
     let mut before: u16 = 0;
@@ -42,7 +42,7 @@ fn count_records(memory: &[u16]) -> usize
 }
 
 fn one_if_nonzero(word: u16) -> u32
-    ensures { λ r. ⌜ (r ≡ nonzero word) × (r ≤ 1) ⌝ }
+    ensures { λ r. ⌜ Bounded r (nonzero word) 2 ⌝ }
 {
     if word == 0 { 0 } else { 1 }
 }
@@ -50,7 +50,7 @@ fn one_if_nonzero(word: u16) -> u32
 // How many words are nonzero.
 fn count_words(memory: &[u16]) -> u32
     requires { ⌜ length (now memory) ≤ 65536 ⌝ }
-    ensures { λ r. ⌜ (r ≡ wordsIn (now (memory .entry))) × (r ≤ 65536) ⌝ }
+    ensures { λ r. ⌜ Bounded r (wordsIn (now (memory .entry))) 65537 ⌝ }
 {
     let mut count: u32 = 0;
     let mut i = 0;
@@ -61,7 +61,7 @@ fn count_words(memory: &[u16]) -> u32
     count
 }
 
-fn preset_record(register: usize, value: u16) -> u32
+fn preset_record(register: u8, value: u16) -> u32
     requires { ⌜ register < 12 ⌝ }
     ensures { λ r. ⌜ r ≡ presetRecord register value ⌝ }
 {
@@ -73,9 +73,9 @@ fn put_presets(core: Core, sheet: &mut [u32])
     requires { ⌜ 12 ≤ length (now sheet) ⌝ }
     ensures { λ r. ⌜ now (sheet .exit) ≡ sets (now (sheet .entry)) 0 (presetsFrom core 12 0) ⌝ }
 {
-    let mut r: usize = 0;
+    let mut r: u8 = 0;
     while r < 12 {
-        sheet[r] = preset_record(r, register(core, r));
+        sheet[r as usize] = preset_record(r, register(core, r));
         r += 1;
     }
 }
@@ -116,9 +116,9 @@ fn put_stretches(memory: &[u16], sheet: &mut [u32])
 
 // Writes the sheet that loads this core and memory. A refused write changes nothing.
 pub fn write_sheet(core: Core, memory: &[u16], sheet: &mut [u32]) -> Written
-    ensures { λ r. ⌜ wrote (writtenOf r) (now (sheet .exit)) ≡ writeSheetOf core (now (memory .entry)) (now (sheet .entry)) ⌝ }
+    ensures { λ r. ⌜ wrote r (now (sheet .exit)) ≡ writeSheetOf core (now (memory .entry)) (now (sheet .entry)) ⌝ }
 {
-    if refuses(memory.len()) {
+    if refuses_length(memory.len()) {
         return Written::Refused(1);
     }
     let words = count_words(memory);

@@ -12,36 +12,41 @@ pub fn small() {
 
 fn first_bytes(n: usize) {
     let bytes = BYTES;
-    let mut out = [0xFFFFFFFFu32; 4];
+    let mut out = [0xFFFFFFFFu32; 8192];
     show::number(n as u64);
     if n <= 12 {
         show::written(sheet::records(&bytes[0..n], &mut out));
     }
-    show_out(&out);
+    show_out(&out, 0, 4);
 }
 
-fn show_out(out: &[u32; 4]) {
-    show::records(out);
-    show::line();
+fn show_out(out: &[u32; 8192], from: usize, to: usize) {
+    show_part(out, from, to);
 }
 
-// As many bytes as a program takes, and more; room for all their records, and for one less.
-pub fn large() {
-    many_bytes(32768, 8192);
-    many_bytes(32768, 8191);
-    many_bytes(32769, 8193);
-    many_bytes(32772, 8193);
-}
-
-fn many_bytes(n: usize, room: usize) {
-    let bytes = [0xFEu8; 32772];
-    let mut out = [0u32; 8193];
-    show::number(n as u64);
-    show::number(room as u64);
-    if n <= 32772 {
-        if room <= 8193 {
-            show::written(sheet::records(&bytes[0..n], &mut out[0..room]));
+// Part of the buffer.
+fn show_part(list: &[u32], from: usize, to: usize) {
+    if from <= to {
+        if to <= list.len() {
+            show::records(&list[from..to]);
         }
     }
     show::line();
+}
+
+// As many bytes as a program takes, and more.
+pub fn large() {
+    many_bytes(32768);
+    many_bytes(32769);
+    many_bytes(32772);
+}
+
+fn many_bytes(n: usize) {
+    let bytes = [0xFEu8; 32772];
+    let mut out = [0u32; 8192];
+    show::number(n as u64);
+    if n <= 32772 {
+        show::written(sheet::records(&bytes[0..n], &mut out));
+    }
+    show_out(&out, 8190, 8192);
 }

@@ -1,6 +1,13 @@
-// Decodes and encodes all 65,536 words again, and prints how many are of each kind.
+// Decodes all 65,536 words, as an instruction and as the number of a register of each sort, encodes what they stand for again, and prints
+// how many are of each kind and sort.
+use instructions::DR;
 use instructions::Decoded;
+use instructions::DecodedDR;
+use instructions::DecodedGPR;
+use instructions::DecodedSPR;
+use instructions::GPR;
 use instructions::Instruction;
+use instructions::SPR;
 use libc::STDOUT_FILENO;
 ghost use Prim.Native.Nat.{_<_};
 
@@ -11,25 +18,34 @@ const NAMES: [u8; 344] =
 struct Tally {
     kinds: [u32; 43],
     undecodable: u32,
-    // Words that do not come back: an instruction whose word is another, or a refusal with another word.
+    general: u32,
+    special: u32,
+    decimal: u32,
+    // Words that do not come back: an instruction or a register whose word is another, or a refusal with another word.
     wrong: u32,
 }
 
 fn main() {
     let t = count_words();
-    let mut k = 0;
-    while k < 43 {
-        io::write_all(STDOUT_FILENO, &NAMES[k * 8..k * 8 + 8]);
-        line(t.kinds[k]);
-        k += 1;
-    }
-    io::write_all(STDOUT_FILENO, b"undecodable ");
-    line(t.undecodable);
-    io::write_all(STDOUT_FILENO, b"wrong ");
-    line(t.wrong);
+    let words = t.kinds;
+    kinds(words);
+    line(b"undecodable ", t.undecodable);
+    line(b"general ", t.general);
+    line(b"special ", t.special);
+    line(b"decimal ", t.decimal);
+    line(b"wrong ", t.wrong);
 }
 
-fn line(n: u32) {
+fn kinds(words: [u32; 43]) {
+    let mut k = 0;
+    while k < 43 {
+        line(&NAMES[k * 8..k * 8 + 8], words[k]);
+        k += 1;
+    }
+}
+
+fn line(name: &[u8], n: u32) {
+    io::write_all(STDOUT_FILENO, name);
     io::print_decimal(STDOUT_FILENO, n as u64);
     io::write_all(STDOUT_FILENO, b"\n");
 }
@@ -38,11 +54,17 @@ fn count_words() -> Tally {
     let mut t = Tally {
         kinds: [0; 43],
         undecodable: 0,
+        general: 0,
+        special: 0,
+        decimal: 0,
         wrong: 0,
     };
     let mut w: u32 = 0;
     while w < 65536 {
-        t = t.with_word(w as u16);
+        t = t.with_word(w as u16)
+            .with_general(w as u16)
+            .with_special(w as u16)
+            .with_decimal(w as u16);
         w += 1;
     }
     t
@@ -60,6 +82,36 @@ impl Tally {
                 self.undecodable = std::num::wrapping_add_u32(self.undecodable, 1);
                 self.checked(v, w)
             }
+        }
+    }
+
+    fn with_general(mut self, w: u16) -> Tally {
+        match GPR::decode(w) {
+            DecodedGPR::Register(r) => {
+                self.general = std::num::wrapping_add_u32(self.general, 1);
+                self.checked(r.number(), w)
+            }
+            DecodedGPR::Nothing => self,
+        }
+    }
+
+    fn with_special(mut self, w: u16) -> Tally {
+        match SPR::decode(w) {
+            DecodedSPR::Register(r) => {
+                self.special = std::num::wrapping_add_u32(self.special, 1);
+                self.checked(r.encode(), w)
+            }
+            DecodedSPR::Nothing => self,
+        }
+    }
+
+    fn with_decimal(mut self, w: u16) -> Tally {
+        match DR::decode(w) {
+            DecodedDR::Register(r) => {
+                self.decimal = std::num::wrapping_add_u32(self.decimal, 1);
+                self.checked(r.encode(), w)
+            }
+            DecodedDR::Nothing => self,
         }
     }
 

@@ -5,7 +5,7 @@ use std::process::{Command, Stdio};
 use std::time::Instant;
 
 use bench::{children_cpu_time, Program, BERTH_LIMIT};
-use nilguseg::{Core, End};
+use nilguseg::{Core, Outcome};
 
 use crate::{times, Times};
 
@@ -85,7 +85,7 @@ fn line_of(sheet: &[u32]) -> (String, u32) {
     let (mut core, mut memory, mut marks) = (Core::new(), vec![0; 32768], vec![0; 32768]);
     core.load_sheet(sheet, &mut memory).unwrap();
     let run = core.run(&mut memory, &mut marks, BERTH_LIMIT);
-    let end = if run.end == End::Halted { "halted" } else { "limit" };
+    let end = if run.end == Outcome::Halted { "halted" } else { "limit" };
     let registers = [core.ip, core.rp, core.sp, core.ef].into_iter().chain(core.r);
     let registers: Vec<String> = registers.map(|register| register.to_string()).collect();
     (format!("{end} {} {}\n", run.steps, registers.join(" ")), run.steps)

@@ -2,7 +2,7 @@
 
 use differential::programs::loops;
 use differential::work::works;
-use nilguseg::End;
+use nilguseg::Outcome;
 
 #[repr(C)]
 struct Timespec {
@@ -48,7 +48,7 @@ pub struct Program {
     pub computes: &'static str,
     pub words: Vec<u16>,
     pub limit: u32,
-    pub end: End,
+    pub end: Outcome,
     /// What it must leave in r0 and on.
     pub result: Vec<u16>,
 }
@@ -63,7 +63,7 @@ pub fn tables() -> [Vec<Program>; 2] {
         computes: "",
         words,
         limit: 2 * BERTH_LIMIT,
-        end: End::Limit,
+        end: Outcome::Limit,
         result: Vec::new(),
     });
     let ending = works().map(|work| Program {
@@ -71,7 +71,7 @@ pub fn tables() -> [Vec<Program>; 2] {
         computes: work.computes,
         words: work.words,
         limit: BERTH_LIMIT,
-        end: End::Halted,
+        end: Outcome::Halted,
         result: work.result,
     });
     [endless.into(), ending.into()]

@@ -1,7 +1,7 @@
 //! What the comparison asks of a machine. What a machine does not say for itself is the model of document 01.
 
 use crate::model;
-use nilguseg::{Core, Fault, Instruction, Refusal, Run, Step};
+use nilguseg::{Core, Fault, Instruction, Outcome, Refusal, Run};
 
 pub trait Machine {
     fn decode(&self, word: u16) -> Result<Instruction, Fault> {
@@ -12,7 +12,7 @@ pub trait Machine {
         model::encode(instruction)
     }
 
-    fn step(&self, core: &mut Core, memory: &mut [u16], marks: &mut [u8]) -> Step {
+    fn step(&self, core: &mut Core, memory: &mut [u16], marks: &mut [u8]) -> Outcome {
         model::step(core, memory, marks)
     }
 
@@ -50,7 +50,7 @@ impl Machine for Library {
         nilguseg::encode(instruction)
     }
 
-    fn step(&self, core: &mut Core, memory: &mut [u16], marks: &mut [u8]) -> Step {
+    fn step(&self, core: &mut Core, memory: &mut [u16], marks: &mut [u8]) -> Outcome {
         core.step(memory, marks)
     }
 

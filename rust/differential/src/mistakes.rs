@@ -3,7 +3,7 @@
 
 use crate::machine::Machine;
 use crate::model;
-use nilguseg::{kind::*, Core, End, Fault, Instruction, Refusal, Run, Step};
+use nilguseg::{kind::*, Core, Fault, Instruction, Outcome, Refusal, Run};
 
 pub struct WrongMachine {
     pub name: &'static str,
@@ -37,16 +37,16 @@ struct Stepped<'a> {
     core: &'a mut Core,
     memory: &'a mut [u16],
     marks: &'a mut [u8],
-    answer: Step,
+    answer: Outcome,
 }
 
 impl Stepped<'_> {
     fn is(&self, kind: u8) -> bool {
-        self.kind == Some(kind) && self.answer == Step::Stepped
+        self.kind == Some(kind) && self.answer == Outcome::Stepped
     }
 
     fn fault(&self, number: u8) -> bool {
-        matches!(self.answer, Step::Fault(fault) if fault.number == number)
+        matches!(self.answer, Outcome::Fault(fault) if fault.number == number)
     }
 
     /// The first and the second operand's words before the step.
@@ -55,7 +55,7 @@ impl Stepped<'_> {
     }
 
     fn fetched(&self) -> bool {
-        !matches!(self.answer, Step::Refused(_) | Step::Halted) && (self.before.ip as usize) < self.memory.len()
+        !matches!(self.answer, Outcome::Refused(_) | Outcome::Halted) && (self.before.ip as usize) < self.memory.len()
     }
 
     fn reads(&self) -> bool {
@@ -63,7 +63,7 @@ impl Stepped<'_> {
     }
 }
 
-fn wrong_step(step: fn(&mut Stepped), core: &mut Core, memory: &mut [u16], marks: &mut [u8]) -> Step {
+fn wrong_step(step: fn(&mut Stepped), core: &mut Core, memory: &mut [u16], marks: &mut [u8]) -> Outcome {
     let before = *core;
     let fetched = memory.get(core.ip as usize).and_then(|word| model::decode(*word).ok());
     let (first, second) = fetched.map_or((0, 0), |i| (i.first as usize % 8, i.second as usize % 8));
@@ -97,7 +97,7 @@ impl Machine for WrongMachine {
         }
     }
 
-    fn step(&self, core: &mut Core, memory: &mut [u16], marks: &mut [u8]) -> Step {
+    fn step(&self, core: &mut Core, memory: &mut [u16], marks: &mut [u8]) -> Outcome {
         match self.mistake {
             Mistake::Step(step) => wrong_step(step, core, memory, marks),
             _ => model::step(core, memory, marks),
@@ -168,8 +168,8 @@ pub const WRONG_MACHINES: [WrongMachine; 40] = [
         "limit is reported for a core that just halted",
         Mistake::Run(|core, memory, marks, limit| {
             let run = model::run(core, memory, marks, limit);
-            if run.end == End::Halted && run.steps == limit {
-                Run { end: End::Limit, ..run }
+            if run.end == Outcome::Halted && run.steps == limit {
+                Run { end: Outcome::Limit, ..run }
             } else {
                 run
             }
@@ -186,7 +186,7 @@ pub const WRONG_MACHINES: [WrongMachine; 40] = [
         }
     }),
     step("a halted core still fetches", |s| {
-        if s.answer == Step::Halted {
+        if s.answer == Outcome::Halted {
             if let Some(mark) = s.marks.get_mut(s.before.ip as usize) {
                 *mark |= 1;
             }
@@ -194,7 +194,7 @@ pub const WRONG_MACHINES: [WrongMachine; 40] = [
     }),
     step("hlt answers halted", |s| {
         if s.is(HLT) {
-            s.answer = Step::Halted;
+            s.answer = Outcome::Halted;
         }
     }),
     step("a step clears the other bits of a mark", |s| {
@@ -215,12 +215,12 @@ pub const WRONG_MACHINES: [WrongMachine; 40] = [
     step("a write past the length wraps around", |s| {
         if s.kind == Some(WRITE) && s.fault(11) {
             s.memory[s.address % s.memory.len()] = s.operands().1;
-            s.answer = Step::Stepped;
+            s.answer = Outcome::Stepped;
         }
     }),
     step("an address out of range is told less one", |s| {
-        if let Step::Fault(Fault { number: 11, value }) = s.answer {
-            s.answer = Step::Fault(Fault { number: 11, value: value.wrapping_sub(1) });
+        if let Outcome::Fault(Fault { number: 11, value }) = s.answer {
+            s.answer = Outcome::Fault(Fault { number: 11, value: value.wrapping_sub(1) });
         }
     }),
     step("pop raises sp though its read faults", |s| {
@@ -262,13 +262,13 @@ pub const WRONG_MACHINES: [WrongMachine; 40] = [
     step("a shift by 16 or more gives 0", |s| {
         if s.fault(13) && s.kind != Some(BITSET) {
             s.core.r[s.first] = 0;
-            s.answer = Step::Stepped;
+            s.answer = Outcome::Stepped;
         }
     }),
     step("a bit's index goes by its low four bits", |s| {
         if s.fault(13) && s.kind == Some(BITSET) && s.before.ef & 2 > 0 {
             s.core.r[s.first] |= 1 << (s.operands().1 % 16);
-            s.answer = Step::Stepped;
+            s.answer = Outcome::Stepped;
         }
     }),
     step("bitset ignores the condition", |s| {
@@ -278,12 +278,12 @@ pub const WRONG_MACHINES: [WrongMachine; 40] = [
     }),
     step("neg of 0x8000 is allowed", |s| {
         if s.fault(14) {
-            s.answer = Step::Stepped;
+            s.answer = Outcome::Stepped;
         }
     }),
     step("dmov, dread and dwrite do nothing", |s| {
         if s.fault(12) {
-            s.answer = Step::Stepped;
+            s.answer = Outcome::Stepped;
         }
     }),
     step("call saves where it goes", |s| {
@@ -306,7 +306,7 @@ pub const WRONG_MACHINES: [WrongMachine; 40] = [
         "a step that faults is counted",
         Mistake::Run(|core, memory, marks, limit| {
             let run = model::run(core, memory, marks, limit);
-            if matches!(run.end, End::Fault(_)) {
+            if matches!(run.end, Outcome::Fault(_)) {
                 Run { steps: run.steps + 1, ..run }
             } else {
                 run
@@ -326,7 +326,7 @@ pub const WRONG_MACHINES: [WrongMachine; 40] = [
         "a run goes one step past its limit",
         Mistake::Run(|core, memory, marks, limit| {
             let run = model::run(core, memory, marks, limit);
-            if run.end == End::Limit {
+            if run.end == Outcome::Limit {
                 model::step(core, memory, marks);
             }
             run
@@ -340,8 +340,8 @@ pub const WRONG_MACHINES: [WrongMachine; 40] = [
         }),
     ),
     step("the lengths are tested in another order", |s| {
-        if s.answer == Step::Refused(Refusal(1)) && s.marks.len() != s.memory.len() {
-            s.answer = Step::Refused(Refusal(2));
+        if s.answer == Outcome::Refused(Refusal(1)) && s.marks.len() != s.memory.len() {
+            s.answer = Outcome::Refused(Refusal(2));
         }
     }),
     other(

@@ -2,7 +2,7 @@
 //! a table made by encoding every operand of every row. It is the base of the wrong machines, and the measure
 //! for what the published Rust does not have: refusals and sheets.
 
-use nilguseg::{kind::*, Core, End, Fault, Instruction, Refusal, Run, Step};
+use nilguseg::{kind::*, Core, Fault, Instruction, Outcome, Refusal, Run};
 
 /// Where an operand stands in a word: how many values it has, and its lowest bit.
 struct Operand {
@@ -165,16 +165,16 @@ fn memory_test(memory: &[u16]) -> Result<(), Refusal> {
     }
 }
 
-pub fn step(core: &mut Core, memory: &mut [u16], marks: &mut [u8]) -> Step {
+pub fn step(core: &mut Core, memory: &mut [u16], marks: &mut [u8]) -> Outcome {
     if let Err(refusal) = host_test(memory, marks) {
-        return Step::Refused(refusal);
+        return Outcome::Refused(refusal);
     }
     if core.is_halted() {
-        return Step::Halted;
+        return Outcome::Halted;
     }
     match cycle(core, &mut Lent { memory, marks }) {
-        Ok(()) => Step::Stepped,
-        Err(fault) => Step::Fault(fault),
+        Ok(()) => Outcome::Stepped,
+        Err(fault) => Outcome::Fault(fault),
     }
 }
 
@@ -298,29 +298,27 @@ pub fn run(core: &mut Core, memory: &mut [u16], marks: &mut [u8], limit: u32) ->
 
 /// A run by the step given.
 pub fn run_by(
-    mut step: impl FnMut(&mut Core, &mut [u16], &mut [u8]) -> Step,
+    mut step: impl FnMut(&mut Core, &mut [u16], &mut [u8]) -> Outcome,
     core: &mut Core,
     memory: &mut [u16],
     marks: &mut [u8],
     limit: u32,
 ) -> Run {
     if let Err(refusal) = host_test(memory, marks) {
-        return Run { end: End::Refused(refusal), steps: 0 };
+        return Run { end: Outcome::Refused(refusal), steps: 0 };
     }
     marks.fill(0);
     let mut steps = 0;
     let end = loop {
         if core.is_halted() {
-            break End::Halted;
+            break Outcome::Halted;
         }
         if steps == limit {
-            break End::Limit;
+            break Outcome::Limit;
         }
         match step(core, memory, marks) {
-            Step::Stepped => steps += 1,
-            Step::Fault(fault) => break End::Fault(fault),
-            Step::Halted => break End::Halted,
-            Step::Refused(refusal) => break End::Refused(refusal),
+            Outcome::Stepped => steps += 1,
+            end => break end,
         }
     };
     Run { end, steps }

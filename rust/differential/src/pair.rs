@@ -4,7 +4,7 @@ use crate::machine::Machine;
 use crate::model;
 use crate::reference::Reference;
 use crate::report::Report;
-use nilguseg::{Core, Step};
+use nilguseg::{Core, Outcome};
 
 pub struct Pair<'a> {
     machine: &'a dyn Machine,
@@ -45,7 +45,7 @@ impl<'a> Pair<'a> {
 
     /// One step of both, compared in answer, registers, and the word and mark at each address that the
     /// published Rust touched. What was touched without need shows in `compare_whole`.
-    pub fn step(&mut self, what: &str, report: &mut Report) -> Step {
+    pub fn step(&mut self, what: &str, report: &mut Report) -> Outcome {
         let before = self.core;
         let word = self.memory.get(before.ip as usize).copied();
         let answer = self.machine.step(&mut self.core, &mut self.memory, &mut self.marks);
@@ -64,7 +64,7 @@ impl<'a> Pair<'a> {
         expected
     }
 
-    fn details(&self, before: Core, word: Option<u16>, answer: Step, expected: Step) -> String {
+    fn details(&self, before: Core, word: Option<u16>, answer: Outcome, expected: Outcome) -> String {
         let touched: Vec<String> = self
             .reference
             .touched()

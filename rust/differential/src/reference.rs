@@ -8,7 +8,7 @@ use std::panic::{catch_unwind, AssertUnwindSafe};
 use delta_null_core_emulator::core::{Core as PublishedCore, ExecutionError};
 use delta_null_core_emulator::memory::{Memory, MemoryError};
 use delta_null_core_instructions::{Encodable, Instruction as Published, DR, GPR, SPR};
-use nilguseg::{kind::*, Core, End, Fault, Instruction, Run, Step};
+use nilguseg::{kind::*, Core, Fault, Instruction, Outcome, Run};
 
 /// The published instruction with these numbers, if there is one.
 pub fn published(instruction: Instruction) -> Option<Published> {
@@ -158,7 +158,7 @@ impl Reference {
     }
 
     /// `Core::step`, in document 01's terms.
-    pub fn step(&mut self) -> Step {
+    pub fn step(&mut self) -> Outcome {
         self.core.memory.touches.set(0);
         self.core.memory.out_of_range.set(None);
         let (halted, before) = (self.core.is_halted(), self.registers());
@@ -166,15 +166,15 @@ impl Reference {
         let answer = catch_unwind(AssertUnwindSafe(|| self.core.step()));
         EXPECTED.set(false);
         match answer {
-            Ok(Ok(())) if halted => Step::Halted,
-            Ok(Ok(())) => Step::Stepped,
-            Ok(Err(ExecutionError::DecodeError(word))) => Step::Fault(Fault { number: 10, value: word }),
+            Ok(Ok(())) if halted => Outcome::Halted,
+            Ok(Ok(())) => Outcome::Stepped,
+            Ok(Err(ExecutionError::DecodeError(word))) => Outcome::Fault(Fault { number: 10, value: word }),
             Ok(Err(ExecutionError::MemoryError(MemoryError::OutOfRange))) => {
                 let value = self.core.memory.out_of_range.get().expect("an address was out of range");
-                Step::Fault(Fault { number: 11, value })
+                Outcome::Fault(Fault { number: 11, value })
             }
             Ok(Err(error)) => panic!("the published Rust answered {error}"),
-            Err(panic) => Step::Fault(stop(panic, before, self.words()[before.ip as usize])),
+            Err(panic) => Outcome::Fault(stop(panic, before, self.words()[before.ip as usize])),
         }
     }
 
@@ -184,15 +184,15 @@ impl Reference {
         let mut steps = 0;
         loop {
             if self.core.is_halted() {
-                return Run { end: End::Halted, steps };
+                return Run { end: Outcome::Halted, steps };
             }
             if steps == limit {
-                return Run { end: End::Limit, steps };
+                return Run { end: Outcome::Limit, steps };
             }
-            if let Step::Fault(fault) = self.step() {
-                return Run { end: End::Fault(fault), steps };
+            match self.step() {
+                Outcome::Stepped => steps += 1,
+                end => return Run { end, steps },
             }
-            steps += 1;
         }
     }
 }

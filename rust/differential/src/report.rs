@@ -1,6 +1,8 @@
 //! Counts what was compared and tells what disagrees.
 
-use nilguseg::{kind, End, Step};
+use std::ops::Range;
+
+use nilguseg::{kind, Outcome};
 
 /// Disagreements told in full; the rest are only counted.
 const TOLD: u64 = 20;
@@ -18,19 +20,33 @@ pub struct Report {
     quiet: bool,
 }
 
-/// Counts by answer: 0 and 1 are stepped and halted, or halted and limit; the rest are faults by number.
+/// Counts by outcome: `PLAIN` from 0 on, and faults at their numbers.
 #[derive(Default)]
 struct Counts([u64; 15]);
 
+const PLAIN: [&str; 3] = ["stepped", "halted", "limit"];
+
 impl Counts {
+    fn count(&mut self, outcome: Outcome) {
+        let slot = match outcome {
+            Outcome::Stepped => 0,
+            Outcome::Halted => 1,
+            Outcome::Limit => 2,
+            Outcome::Fault(fault) => fault.number as usize,
+            Outcome::Refused(_) => unreachable!("the published Rust refuses nothing"),
+        };
+        self.0[slot] += 1;
+    }
+
     fn total(&self) -> u64 {
         self.0.iter().sum()
     }
 
-    fn listed(&self, first: &str, second: &str) -> String {
-        let mut parts = vec![format!("{first} {}", self.0[0]), format!("{second} {}", self.0[1])];
-        parts.extend((10..15).map(|number| format!("fault {number}: {}", self.0[number])));
-        parts.join(", ")
+    /// Those of `PLAIN` in the range given, then the faults.
+    fn listed(&self, plain: Range<usize>) -> String {
+        let plain = plain.map(|slot| format!("{} {}", PLAIN[slot], self.0[slot]));
+        let faults = (10..15).map(|number| format!("fault {number}: {}", self.0[number]));
+        plain.chain(faults).collect::<Vec<_>>().join(", ")
     }
 }
 
@@ -60,27 +76,15 @@ impl Report {
         }
     }
 
-    pub fn count_step(&mut self, kind: Option<u8>, step: Step) {
-        let slot = match step {
-            Step::Stepped => 0,
-            Step::Halted => 1,
-            Step::Fault(fault) => fault.number as usize,
-            Step::Refused(_) => unreachable!("the published Rust refuses nothing"),
-        };
-        self.steps.0[slot] += 1;
-        if let (Some(kind), false) = (kind, step == Step::Halted) {
+    pub fn count_step(&mut self, kind: Option<u8>, step: Outcome) {
+        self.steps.count(step);
+        if let (Some(kind), false) = (kind, step == Outcome::Halted) {
             self.kinds[kind as usize] += 1;
         }
     }
 
-    pub fn count_run(&mut self, end: End, steps: u32) {
-        let slot = match end {
-            End::Halted => 0,
-            End::Limit => 1,
-            End::Fault(fault) => fault.number as usize,
-            End::Refused(_) => unreachable!("the published Rust refuses nothing"),
-        };
-        self.runs.0[slot] += 1;
+    pub fn count_run(&mut self, end: Outcome, steps: u32) {
+        self.runs.count(end);
         self.run_steps += steps as u64;
     }
 
@@ -96,8 +100,8 @@ impl Report {
         for (what, count) in &self.others {
             println!("{count} {what}");
         }
-        println!("{} single steps: {}", self.steps(), self.steps.listed("stepped", "halted"));
-        println!("{} runs of {} steps: {}", self.runs.total(), self.run_steps, self.runs.listed("halted", "limit"));
+        println!("{} single steps: {}", self.steps(), self.steps.listed(0..2));
+        println!("{} runs of {} steps: {}", self.runs.total(), self.run_steps, self.runs.listed(1..3));
         let kinds = kind::NAMES.iter().zip(self.kinds).map(|(name, n)| format!("{} {n}", name.to_lowercase()));
         println!("single steps by kind: {}", kinds.collect::<Vec<_>>().join(", "));
         println!("{} disagreements", self.disagreements);

@@ -8,7 +8,7 @@ use crate::reference::Reference;
 use crate::report::Report;
 use crate::states::{self, edges};
 use crate::work::works;
-use nilguseg::{Core, Run, Step};
+use nilguseg::{Core, Outcome, Run};
 
 /// A core and a memory to begin with.
 struct Program {
@@ -56,7 +56,7 @@ pub fn lockstep(machine: &dyn Machine, steps: u64, report: &mut Report) {
         let mut pair = Pair::new(machine, core, memory, marks);
         for _ in 0..if length > 2000 { 2000 } else { 200 } {
             let step = pair.step("lockstep", report);
-            if report.disagreements > before || step == Step::Halted && !random.one_in(4) {
+            if report.disagreements > before || step == Outcome::Halted && !random.one_in(4) {
                 break;
             }
             pair.set_core(disturbed(&mut random, pair.core(), step, length));
@@ -66,8 +66,8 @@ pub fn lockstep(machine: &dyn Machine, steps: u64, report: &mut Report) {
 }
 
 /// The core to go on with: awake where it halted, inside memory where it left it, at times changed.
-fn disturbed(random: &mut Random, mut core: Core, step: Step, length: usize) -> Core {
-    if step == Step::Halted {
+fn disturbed(random: &mut Random, mut core: Core, step: Outcome, length: usize) -> Core {
+    if step == Outcome::Halted {
         core.ef = random.word() & 0xFFFE;
     }
     if core.ip as usize >= length {

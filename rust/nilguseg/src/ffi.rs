@@ -2,6 +2,13 @@
 
 use crate::Core;
 
+/// How a step or a run came out, as the header numbers it.
+pub const STEPPED: u8 = 0;
+pub const HALTED: u8 = 1;
+pub const LIMIT: u8 = 2;
+pub const FAULT: u8 = 3;
+pub const REFUSED: u8 = 4;
+
 unsafe extern "C" {
     pub safe fn nilguseg_decode(word: u16) -> u32;
     pub safe fn nilguseg_encode(kind: u8, first: u8, second: u8) -> u32;
@@ -36,4 +43,45 @@ unsafe extern "C" {
         sheet: *mut u32,
         sheet_len: usize,
     ) -> u64;
+}
+
+#[cfg(test)]
+mod tests {
+    use super::*;
+
+    #[test]
+    fn the_header_has_the_same_numbers() {
+        let header = include_str!("../../../include/nilguseg.h");
+        for outcome in [
+            format!("NILGUSEG_STEPPED = {STEPPED},"),
+            format!("NILGUSEG_HALTED = {HALTED},"),
+            format!("NILGUSEG_LIMIT = {LIMIT},"),
+            format!("NILGUSEG_FAULT = {FAULT},"),
+            format!("NILGUSEG_REFUSED = {REFUSED} "),
+        ] {
+            assert!(header.contains(&outcome), "{outcome}");
+        }
+    }
+
+    /// The answers to one step and to a run of at most one, of `word` alone in memory.
+    fn answers(word: u16, ef: u16, marks_len: usize) -> (u32, u64) {
+        let (mut memory, mut marks) = ([word], vec![0; marks_len]);
+        let [mut stepped, mut ran] = [Core { ef, ..Core::new() }; 2];
+        // SAFETY: pointers and lengths are those of slices.
+        unsafe {
+            (
+                nilguseg_step(&mut stepped, memory.as_mut_ptr(), 1, marks.as_mut_ptr(), marks_len),
+                nilguseg_run(&mut ran, memory.as_mut_ptr(), 1, marks.as_mut_ptr(), marks_len, 1),
+            )
+        }
+    }
+
+    #[test]
+    fn a_step_and_a_run_answer_by_one_numbering() {
+        assert_eq!(answers(0x1003, 0, 1), (0, 0x0200_0000_0000_0001));
+        assert_eq!(answers(0xFFFF, 0, 1), (0, 0x0100_0000_0000_0001));
+        assert_eq!(answers(0x1003, 1, 1), (0x0100_0000, 0x0100_0000_0000_0000));
+        assert_eq!(answers(0x4600, 0, 1), (0x030A_4600, 0x030A_4600_0000_0000));
+        assert_eq!(answers(0x1003, 0, 2), (0x0402_0000, 0x0402_0000_0000_0000));
+    }
 }

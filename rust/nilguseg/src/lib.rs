@@ -4,12 +4,12 @@
 //! numbers of document 01, and a refused call leaves what was lent unchanged.
 //!
 //! ```
-//! use nilguseg::{Core, End};
+//! use nilguseg::{Core, Outcome};
 //! let mut memory = [0x1003, 0xFFFF]; // putl r0 3, hlt
 //! let mut marks = [0; 2];
 //! let mut core = Core::new();
 //! let run = core.run(&mut memory, &mut marks, 2);
-//! assert_eq!((run.end, run.steps, core.r[0]), (End::Halted, 2, 3));
+//! assert_eq!((run.end, run.steps, core.r[0]), (Outcome::Halted, 2, 3));
 //! ```
 
 mod ffi;
@@ -34,18 +34,11 @@ pub fn encode(instruction: Instruction) -> Option<u16> {
 
 impl Core {
     /// One step. Adds to the marks and clears none.
-    pub fn step(&mut self, memory: &mut [u16], marks: &mut [u8]) -> Step {
-        // SAFETY: pointers and lengths are those of slices, and Core has the layout of twelve words.
+    pub fn step(&mut self, memory: &mut [u16], marks: &mut [u8]) -> Outcome {
+        // SAFETY: pointers and lengths are those of slices, and Core has the layout of the C struct.
         let answer =
             unsafe { ffi::nilguseg_step(self, memory.as_mut_ptr(), memory.len(), marks.as_mut_ptr(), marks.len()) };
-        let [class, number, high, low] = answer.to_be_bytes();
-        match (class, number, u16::from_be_bytes([high, low])) {
-            (0, 0, 0) => Step::Stepped,
-            (1, 0, 0) => Step::Halted,
-            (2, number, value) => Step::Fault(Fault { number, value }),
-            (3, number, 0) => Step::Refused(Refusal(number)),
-            other => panic!("a step never answers {other:?}"),
-        }
+        outcome(answer)
     }
 
     /// Steps until halt, the limit or a fault. First sets all marks to 0; then 1 is read before written, 2 written.
@@ -54,15 +47,7 @@ impl Core {
         let answer = unsafe {
             ffi::nilguseg_run(self, memory.as_mut_ptr(), memory.len(), marks.as_mut_ptr(), marks.len(), limit)
         };
-        let [class, number, high, low, ..] = answer.to_be_bytes();
-        let end = match (class, number, u16::from_be_bytes([high, low])) {
-            (0, 0, 0) => End::Halted,
-            (1, 0, 0) => End::Limit,
-            (2, number, value) => End::Fault(Fault { number, value }),
-            (3, number, 0) => End::Refused(Refusal(number)),
-            other => panic!("a run never ends with {other:?}"),
-        };
-        Run { end, steps: answer as u32 }
+        Run { end: outcome((answer >> 32) as u32), steps: answer as u32 }
     }
 
     /// Zeroes memory and copies the words to its beginning. The core becomes a fresh one, also where it refuses.
@@ -88,6 +73,18 @@ impl Core {
             unsafe { ffi::nilguseg_write_sheet(self, memory.as_ptr(), memory.len(), sheet.as_mut_ptr(), sheet.len()) };
         refusal((answer >> 32) as u32)?;
         Ok(answer as u32 as usize)
+    }
+}
+
+fn outcome(answer: u32) -> Outcome {
+    let [outcome, number, high, low] = answer.to_be_bytes();
+    match (outcome, number, u16::from_be_bytes([high, low])) {
+        (ffi::STEPPED, 0, 0) => Outcome::Stepped,
+        (ffi::HALTED, 0, 0) => Outcome::Halted,
+        (ffi::LIMIT, 0, 0) => Outcome::Limit,
+        (ffi::FAULT, number, value) => Outcome::Fault(Fault { number, value }),
+        (ffi::REFUSED, number, 0) => Outcome::Refused(Refusal(number)),
+        other => panic!("no call answers {other:?}"),
     }
 }
 

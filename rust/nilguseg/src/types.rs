@@ -1,8 +1,9 @@
 //! What goes into the machine and what comes out, in document 01's numbers.
 
 use core::fmt;
+use core::mem::offset_of;
 
-/// The twelve registers, laid out as the C functions take them.
+/// The registers, laid out as the header's `nilguseg_core`.
 #[derive(Debug, Clone, Copy, PartialEq, Eq)]
 #[repr(C)]
 pub struct Core {
@@ -13,6 +14,11 @@ pub struct Core {
     /// Bit 0 is halt, bit 1 is condition.
     pub ef: u16,
 }
+
+const _: () = {
+    assert!(offset_of!(Core, r) == 0 && offset_of!(Core, ip) == 16 && offset_of!(Core, rp) == 18);
+    assert!(offset_of!(Core, sp) == 20 && offset_of!(Core, ef) == 22 && size_of::<Core>() == 24);
+};
 
 impl Core {
     /// A fresh core: all 0 except sp.
@@ -43,19 +49,14 @@ pub struct Fault {
 #[derive(Debug, Clone, Copy, PartialEq, Eq)]
 pub struct Refusal(pub u8);
 
-/// What a step answers.
+/// How a step or a run came out.
 #[derive(Debug, Clone, Copy, PartialEq, Eq)]
-pub enum Step {
+pub enum Outcome {
+    /// Of a step: an instruction was executed.
     Stepped,
+    /// The core was halted already, or the run halted it.
     Halted,
-    Fault(Fault),
-    Refused(Refusal),
-}
-
-/// How a run ends.
-#[derive(Debug, Clone, Copy, PartialEq, Eq)]
-pub enum End {
-    Halted,
+    /// Of a run: its limit of steps was reached.
     Limit,
     Fault(Fault),
     Refused(Refusal),
@@ -64,7 +65,8 @@ pub enum End {
 /// What a run answers. A step that faults is not counted.
 #[derive(Debug, Clone, Copy, PartialEq, Eq)]
 pub struct Run {
-    pub end: End,
+    /// Never `Stepped`.
+    pub end: Outcome,
     pub steps: u32,
 }
 

@@ -1,6 +1,6 @@
 //! The examples of document 01, and what a refused call leaves unchanged.
 
-use nilguseg::{decode, encode, kind, Core, End, Fault, Instruction, Refusal, Run, Step};
+use nilguseg::{decode, encode, kind, Core, Fault, Instruction, Outcome, Refusal, Run};
 
 const EXAMPLE: [u16; 2] = [0x1003, 0xFFFF];
 const EXAMPLE_SHEET: [u32; 3] = [0x2000_1003, 0x2000_FFFF, 0xF000_0002];
@@ -13,7 +13,7 @@ fn instruction(kind: u8, first: u8, second: u8) -> Instruction {
 }
 
 /// One step of `core` at memory of `length` words that begins with `word`.
-fn step_once(mut core: Core, length: usize, word: u16) -> (Step, Core) {
+fn step_once(mut core: Core, length: usize, word: u16) -> (Outcome, Core) {
     let (mut memory, mut marks) = (vec![0; length], vec![0; length]);
     memory[core.ip as usize] = word;
     let step = core.step(&mut memory, &mut marks);
@@ -55,15 +55,15 @@ fn exactly_6118_words_decode_and_encode_to_themselves() {
 #[test]
 fn a_push_past_the_end_leaves_sp_lowered() {
     let pushed = Core { sp: 0xFFFE, ip: 1, ..Core::new() };
-    assert_eq!(step_once(Core::new(), 65536, 0x23D0), (Step::Stepped, pushed));
+    assert_eq!(step_once(Core::new(), 65536, 0x23D0), (Outcome::Stepped, pushed));
     let fault = Fault { number: 11, value: 0xFFFE };
-    assert_eq!(step_once(Core::new(), 32768, 0x23D0), (Step::Fault(fault), pushed));
+    assert_eq!(step_once(Core::new(), 32768, 0x23D0), (Outcome::Fault(fault), pushed));
 }
 
 #[test]
 fn a_jump_by_minus_one_stays_where_it_is() {
     let core = Core { ip: 5, ..Core::new() };
-    assert_eq!(step_once(core, 6, 0x60FF), (Step::Stepped, core));
+    assert_eq!(step_once(core, 6, 0x60FF), (Outcome::Stepped, core));
 }
 
 #[test]
@@ -77,19 +77,19 @@ fn shifts_and_negation_stop_where_the_rust_panics() {
     assert_eq!(step_once(with_registers(1, 15), 1, 0x4410).1.r[0], 0x8000);
     let after = Core { ip: 1, ..with_registers(1, 16) };
     let fault = Fault { number: 13, value: 16 };
-    assert_eq!(step_once(with_registers(1, 16), 1, 0x4410), (Step::Fault(fault), after));
+    assert_eq!(step_once(with_registers(1, 16), 1, 0x4410), (Outcome::Fault(fault), after));
     assert_eq!(step_once(with_registers(1, 0), 1, 0x4800).1.r[0], 0xFFFF);
     let fault = Fault { number: 14, value: 0x8000 };
-    assert_eq!(step_once(with_registers(0x8000, 0), 1, 0x4800).0, Step::Fault(fault));
+    assert_eq!(step_once(with_registers(0x8000, 0), 1, 0x4800).0, Outcome::Fault(fault));
 }
 
 #[test]
 fn a_halted_core_is_left_alone() {
     let mut core = Core { ef: 1, ..BUSY };
     let (mut memory, mut marks) = (EXAMPLE, [0xA4; 2]);
-    assert_eq!(core.step(&mut memory, &mut marks), Step::Halted);
+    assert_eq!(core.step(&mut memory, &mut marks), Outcome::Halted);
     assert_eq!((core, memory, marks), (Core { ef: 1, ..BUSY }, EXAMPLE, [0xA4; 2]));
-    assert_eq!(core.run(&mut memory, &mut marks, 0), Run { end: End::Halted, steps: 0 });
+    assert_eq!(core.run(&mut memory, &mut marks, 0), Run { end: Outcome::Halted, steps: 0 });
     assert_eq!(marks, [0; 2], "a run clears the marks");
 }
 
@@ -97,12 +97,12 @@ fn a_halted_core_is_left_alone() {
 fn the_example_runs_to_its_end_or_its_limit() {
     let (mut memory, mut marks) = (EXAMPLE, [0xFF; 2]);
     let mut core = Core::new();
-    assert_eq!(core.run(&mut memory, &mut marks, 2), Run { end: End::Halted, steps: 2 });
+    assert_eq!(core.run(&mut memory, &mut marks, 2), Run { end: Outcome::Halted, steps: 2 });
     assert_eq!(core, Core { ip: 2, ef: 1, ..with_registers(3, 0) });
     assert_eq!((memory, marks), (EXAMPLE, [1, 1]));
 
     let mut core = Core::new();
-    assert_eq!(core.run(&mut memory, &mut marks, 1), Run { end: End::Limit, steps: 1 });
+    assert_eq!(core.run(&mut memory, &mut marks, 1), Run { end: Outcome::Limit, steps: 1 });
     assert_eq!((core.ip, marks), (1, [1, 0]));
 }
 
@@ -111,7 +111,7 @@ fn a_step_adds_to_the_marks() {
     let mut memory = [0x2081, 0]; // write r1 at the address in r0
     let mut core = with_registers(1, 7);
     let mut marks = [0xA4, 0xA1];
-    assert_eq!(core.step(&mut memory, &mut marks), Step::Stepped);
+    assert_eq!(core.step(&mut memory, &mut marks), Outcome::Stepped);
     assert_eq!((memory, marks), ([0x2081, 7], [0xA5, 0xA3]));
 }
 
@@ -120,7 +120,7 @@ fn a_fault_is_not_counted_and_keeps_what_was_written() {
     let mut memory = [0x2081, 0x2158, 0]; // write r1 at the address in r0; undecodable
     let mut marks = [0; 3];
     let mut core = with_registers(2, 7);
-    let end = End::Fault(Fault { number: 10, value: 0x2158 });
+    let end = Outcome::Fault(Fault { number: 10, value: 0x2158 });
     assert_eq!(core.run(&mut memory, &mut marks, 9), Run { end, steps: 1 });
     assert_eq!((core.ip, memory, marks), (2, [0x2081, 0x2158, 7], [1, 1, 2]));
 }
@@ -129,9 +129,9 @@ fn a_fault_is_not_counted_and_keeps_what_was_written() {
 fn assert_refused(memory_len: usize, marks_len: usize, number: u8) {
     let (mut memory, mut marks) = (vec![0x1003; memory_len], vec![0xA4; marks_len]);
     let mut core = BUSY;
-    assert_eq!(core.step(&mut memory, &mut marks), Step::Refused(Refusal(number)));
+    assert_eq!(core.step(&mut memory, &mut marks), Outcome::Refused(Refusal(number)));
     let run = core.run(&mut memory, &mut marks, 5);
-    assert_eq!(run, Run { end: End::Refused(Refusal(number)), steps: 0 });
+    assert_eq!(run, Run { end: Outcome::Refused(Refusal(number)), steps: 0 });
     assert_eq!(core, BUSY);
     assert!(memory.iter().all(|&word| word == 0x1003) && marks.iter().all(|&mark| mark == 0xA4));
 }

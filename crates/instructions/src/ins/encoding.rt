@@ -5,9 +5,9 @@ use crate::reg::GPR;
 use crate::reg::SPR;
 use opcode::InstructionOpcode;
 ghost use mathlib.Core.Path.{_≡_};
-ghost use Prim.Native.Nat.{_<_, _%_};
+ghost use Rattle.instructions.specs.Bounded.{Bounded};
 ghost use Rattle.instructions.specs.Encoding.{encodeOf, pairOf, slotOf, immediateOf};
-ghost use Rattle.instructions.specs.Decoding.{operandsOf, answerOf, decodeOf};
+ghost use Rattle.instructions.specs.Decoding.{operandsOf, decodeOf};
 
 // What decoding a word answers.
 pub enum Decoded {
@@ -82,7 +82,7 @@ impl Instruction {
     }
 
     pub fn decode(bits: u16) -> Decoded
-        ensures { λ r. ⌜ answerOf r ≡ decodeOf bits ⌝ }
+        ensures { λ r. ⌜ r ≡ decodeOf bits ⌝ }
     {
         let hi = (bits / 256) as u8;
         let lo = (bits % 256) as u8;
@@ -92,32 +92,31 @@ impl Instruction {
 
 // Two general registers at their places: p in bits 6..4, q in bits 2..0.
 fn pair(p: GPR, q: GPR) -> u16
-    ensures { λ r. ⌜ (r ≡ pairOf p q) × (r < 128) ⌝ }
+    ensures { λ r. ⌜ Bounded r (pairOf p q) 128 ⌝ }
 {
     p.encode() * 16 + q.encode()
 }
 
 // A register in bits 6..4, and the low four bits of a stack offset in bits 3..0.
 fn slot(val: GPR, offset: u8) -> u16
-    ensures { λ r. ⌜ (r ≡ slotOf val offset) × (r < 128) ⌝ }
+    ensures { λ r. ⌜ Bounded r (slotOf val offset) 128 ⌝ }
 {
     val.encode() * 16 + (offset % 16) as u16
 }
 
 // A register in bits 10..8, and a byte in bits 7..0.
 fn immediate(reg: GPR, imm: u8) -> u16
-    ensures { λ r. ⌜ (r ≡ immediateOf reg imm) × (r < 2048) ⌝ }
+    ensures { λ r. ⌜ Bounded r (immediateOf reg imm) 2048 ⌝ }
 {
     reg.encode() * 256 + imm as u16
 }
 
-// The instruction with this opcode, with the operands that the word's two bytes hold. Registers are taken from 16 bits, hence `wide`.
+// The instruction with this opcode, with the operands that the word's two bytes hold.
 fn with_operands(opcode: InstructionOpcode, bits: u16, hi: u8, lo: u8) -> Decoded
-    ensures { λ r. ⌜ answerOf r ≡ operandsOf opcode bits hi lo ⌝ }
+    ensures { λ r. ⌜ r ≡ operandsOf opcode bits hi lo ⌝ }
 {
-    let wide = lo as u16;
-    let p = GPR::from_low_bits(wide / 16);
-    let q = GPR::from_low_bits(wide);
+    let p = GPR::from_low_bits(lo / 16);
+    let q = GPR::from_low_bits(lo);
     let ins = match opcode {
         InstructionOpcode::Undecodable => return Decoded::Undecodable(bits),
 
@@ -126,17 +125,17 @@ fn with_operands(opcode: InstructionOpcode, bits: u16, hi: u8, lo: u8) -> Decode
         InstructionOpcode::Hlt => Instruction::Hlt,
         InstructionOpcode::Mov => Instruction::Mov { dest: q, src: p },
         InstructionOpcode::DMov => Instruction::DMov {
-            dest: DR::from_low_bits(wide),
-            src: DR::from_low_bits(wide / 16),
+            dest: DR::from_low_bits(lo),
+            src: DR::from_low_bits(lo / 16),
         },
 
         // Immediate loads
         InstructionOpcode::Putl => Instruction::Putl {
-            reg: GPR::from_low_bits(hi as u16),
+            reg: GPR::from_low_bits(hi),
             imm: lo,
         },
         InstructionOpcode::Puth => Instruction::Puth {
-            reg: GPR::from_low_bits(hi as u16),
+            reg: GPR::from_low_bits(hi),
             imm: lo,
         },
 
@@ -152,12 +151,12 @@ fn with_operands(opcode: InstructionOpcode, bits: u16, hi: u8, lo: u8) -> Decode
             val: p,
         },
         InstructionOpcode::DRead => Instruction::DRead {
-            val: DR::from_low_bits(wide),
+            val: DR::from_low_bits(lo),
             addr: p,
         },
         InstructionOpcode::DWrite => Instruction::DWrite {
             addr: p,
-            val: DR::from_low_bits(wide),
+            val: DR::from_low_bits(lo),
         },
         InstructionOpcode::Push => Instruction::Push { val: q },
         InstructionOpcode::Pop => Instruction::Pop { val: q },
@@ -165,10 +164,10 @@ fn with_operands(opcode: InstructionOpcode, bits: u16, hi: u8, lo: u8) -> Decode
         // Special-purpose registers
         InstructionOpcode::Movso => Instruction::Movso {
             dest: q,
-            src: SPR::from_low_bits(wide / 16),
+            src: SPR::from_low_bits(lo / 16),
         },
         InstructionOpcode::Movsi => Instruction::Movsi {
-            dest: SPR::from_low_bits(wide / 16),
+            dest: SPR::from_low_bits(lo / 16),
             src: q,
         },
         InstructionOpcode::Spadd => Instruction::Spadd { val: q },

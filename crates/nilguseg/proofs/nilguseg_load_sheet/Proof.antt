@@ -5,9 +5,6 @@ use borrow.Author.Needs.{needs}
 use Rattle.nilguseg.proofs.nilguseg_load_sheet.Statement.{statement}
 use Rattle.nilguseg.proofs.nilguseg_load_sheet.Tie as tie
 
-returns : tie.Need-returns
-returns c = loaded _ (c .before .before .before .before .before .before .load-sheet .ensures) (c .before .put-core .ensures) (c .loaded-number .ensures)
-
 pub nilguseg-load-sheet-spec : {M : Type 1} → statement M
 nilguseg-load-sheet-spec =
     tie.close
@@ -16,4 +13,4 @@ nilguseg-load-sheet-spec =
     (λ c κs. search needs)
     (λ c κs. search needs)
     (λ c. search needs)
-    returns)
+    (λ c. search loaded))

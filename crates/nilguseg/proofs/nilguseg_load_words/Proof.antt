@@ -5,9 +5,6 @@ use borrow.Author.Needs.{needs}
 use Rattle.nilguseg.proofs.nilguseg_load_words.Statement.{statement}
 use Rattle.nilguseg.proofs.nilguseg_load_words.Tie as tie
 
-returns : tie.Need-returns
-returns c = loaded _ (c .before .before .before .before .before .before .load-words .ensures) (c .before .put-core .ensures) (c .loaded-number .ensures)
-
 pub nilguseg-load-words-spec : {M : Type 1} → statement M
 nilguseg-load-words-spec =
     tie.close
@@ -16,4 +13,4 @@ nilguseg-load-words-spec =
     (λ c κs. search needs)
     (λ c κs. search needs)
     (λ c. search needs)
-    returns)
+    (λ c. search loaded))

@@ -5,12 +5,6 @@ use borrow.Author.Needs.{needs}
 use Rattle.nilguseg.proofs.nilguseg_step.Statement.{statement}
 use Rattle.nilguseg.proofs.nilguseg_step.Tie as tie
 
-returns : tie.Need-returns
-returns c =
-    let at-start = c .before .before .before .before .before .before .before .before .before .before .before .before .before .before .before in
-    stepped (at-start .args .core .now) (at-start .args .memory .now) (at-start .args .marks .now) (c .before .before .before .before .before .before .before .before .before .before .before .core-of .ensures) (c .before .put-core .ensures) (c .before .before .before .before .before .before .before .before .step .ensures)
-    (c .step-number .ensures)
-
 pub nilguseg-step-spec : {M : Type 1} → statement M
 nilguseg-step-spec =
     tie.close
@@ -21,4 +15,4 @@ nilguseg-step-spec =
     (λ c κs. search needs)
     (λ c. search needs)
     (λ c. search needs)
-    returns)
+    (λ c. search stepped))

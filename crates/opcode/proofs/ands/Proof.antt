@@ -1,7 +1,7 @@
 -- `ands` meets its contract.
 -- Assumes nothing.
 use borrow.Author.Needs.{needs}
-use borrow.Author.Tests.{lt-ltb, le-ltb}
+use Rattle.opcode.proofs.Chosen.{chosen}
 use Rattle.opcode.proofs.ands.Statement.{statement}
 use Rattle.opcode.proofs.ands.Tie as tie
 
@@ -11,5 +11,5 @@ ands-spec =
     (tie.spec
     (λ c κs. search needs)
     (λ c κs. search needs)
-    (λ c. rw (lt-ltb _ 0x80 (c .before .if1 .taken)) (c .register .ensures))
-    (λ c. rw (le-ltb _ 0x80 (c .before .if1 .left)) (c .register2 .ensures)))
+    (λ c. search chosen)
+    (λ c. search chosen))

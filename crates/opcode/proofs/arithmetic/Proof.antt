@@ -2,7 +2,7 @@
 -- Assumes nothing.
 use native.Mathlib.Omega.{arith}
 use borrow.Author.Needs.{needs}
-use Rattle.opcode.proofs.UpperByte.{row, is-gap}
+use Rattle.opcode.proofs.UpperByte.{row, second, is-gap}
 use Rattle.opcode.proofs.arithmetic.Statement.{statement}
 use Rattle.opcode.proofs.arithmetic.Tie as tie
 
@@ -14,9 +14,9 @@ arithmetic-spec =
     (λ c κs. search needs)
     (λ c κs. search needs)
     (λ c κs. search needs)
-    (λ c. search (row 0x4A))
-    (λ c. search (row 0x4B))
-    (λ c. search (row 0x48))
-    (λ c. row 0x49 (c .before .before .before .before .before .args .hi) _ (omega arith) (c .paired3 .ensures))
+    (λ c. search row)
+    (λ c. search row)
+    (λ c. search row)
+    (λ c. search (second 0x48))
     (λ c. absurd (omega arith))
     (λ c. is-gap 0x4B 0x50 (c .before .before .before .args .hi) _ tt (omega arith) (omega arith) (omega arith) (omega arith)))

@@ -1,10 +1,9 @@
 -- `branching_or_hlt` meets its contract: the rows of its upper bytes, and what lies between them.
 -- Assumes nothing.
-use mathlib.Core.Path.{refl}
 use native.Mathlib.Omega.{arith}
 use borrow.Author.Needs.{needs}
 use borrow.Author.Tests.{ne-eqb}
-use Rattle.opcode.proofs.UpperByte.{row, is-gap}
+use Rattle.opcode.proofs.UpperByte.{row, second, is-gap}
 use Rattle.opcode.proofs.branching_or_hlt.Statement.{statement}
 use Rattle.opcode.proofs.branching_or_hlt.Tie as tie
 
@@ -14,11 +13,11 @@ branching-or-hlt-spec =
     (tie.spec
     (λ c κs. search needs)
     (λ c κs. search needs)
-    (λ c. search (row 0x62))
-    (λ c. search (row 0x63))
+    (λ c. search row)
+    (λ c. search row)
     (λ c. rw (c .before .match .keys3, c .match2 .keys1))
     (λ c. rw (c .before .match .keys3, ne-eqb _ 0xFF (c .match2 .rest .1)))
     (λ c. rw (c .match3 .keys1))
-    (λ c. row 0x61 (c .before .before .before .before .args .hi) _ (omega arith) refl)
+    (λ c. search (second 0x60))
     (λ c. absurd (omega arith))
     (λ c. is-gap 0x63 0xFF (c .before .before .before .args .hi) _ tt (omega arith) (omega arith) (omega arith) (omega arith)))

@@ -3,7 +3,7 @@
 use mathlib.Core.Logic.{⊎-elim}
 use native.Mathlib.Omega.{arith}
 use borrow.Author.Needs.{needs}
-use Rattle.opcode.proofs.UpperByte.{row}
+use Rattle.opcode.proofs.UpperByte.{row, second}
 use Rattle.opcode.proofs.opcode.Statement.{statement}
 use Rattle.opcode.proofs.opcode.Tie as tie
 
@@ -25,9 +25,9 @@ opcode-spec =
     arithmetic-requires
     (λ c κs. search needs)
     branching-or-hlt-requires
-    (λ c. search (row 0x20))
+    (λ c. search row)
     (λ c. search needs)
-    (λ c. row 0x21 (c .before .before .before .before .before .args .hi) _ (omega arith) (c .moves .ensures))
+    (λ c. search (second 0x20))
     (λ c. search needs)
     (λ c. search needs)
     (λ c. search needs)

@@ -5,7 +5,7 @@ use Prim.Native.Nat.{_-_}
 use native.Mathlib.Nat.{eq-zero-or-pos}
 use native.Mathlib.Omega.{arith}
 use borrow.Author.Needs.{needs}
-use Rattle.opcode.proofs.UpperByte.{row, is-gap}
+use Rattle.opcode.proofs.UpperByte.{row, second, is-gap}
 use Rattle.opcode.proofs.stack.Statement.{statement}
 use Rattle.opcode.proofs.stack.Tie as tie
 
@@ -25,8 +25,8 @@ stack-spec =
     (λ c κs. search needs)
     (λ c κs. search needs)
     (λ c κs. search needs)
-    (λ c. search (row 0x30))
-    (λ c. search (row 0x22))
-    (λ c. row 0x23 (c .before .before .before .before .before .args .hi) _ (omega arith) (c .push-or-pop .ensures))
+    (λ c. search row)
+    (λ c. search row)
+    (λ c. search (second 0x22))
     (λ c. absurd (omega arith))
     gaps)

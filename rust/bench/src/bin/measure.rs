@@ -10,7 +10,7 @@ use bench::{cpu_time, tables};
 use delta_null_core_emulator::core::Core as PublishedCore;
 use delta_null_core_emulator::memory::{Memory, MemoryError};
 use differential::programs::full_memory;
-use nilguseg::{Core, End, Run};
+use nilguseg::{Core, Outcome, Run};
 
 /// A memory that keeps the marks, as the library does.
 struct Marked {
@@ -46,13 +46,13 @@ struct Done {
 fn published(memory: Vec<u16>, limit: u32) -> Done {
     let marks = vec![Cell::new(0); memory.len()];
     let mut core = PublishedCore::new(Marked { words: memory, marks });
-    let mut run = Run { end: End::Limit, steps: 0 };
+    let mut run = Run { end: Outcome::Limit, steps: 0 };
     let start = cpu_time();
     for _ in 0..black_box(limit) {
         core.step().expect("no program here stops");
         run.steps += 1;
         if core.is_halted() {
-            run.end = End::Halted;
+            run.end = Outcome::Halted;
             break;
         }
     }

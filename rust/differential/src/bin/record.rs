@@ -9,7 +9,8 @@
 //! | 2         | the byte that each of the 32 marks is at the start                                        |
 //! | 3 to 14   | the registers at the start: r0 to r7, ip, rp, sp, ef                                      |
 //! | 15 to 46  | the memory at the start: 32 words, which is its length                                    |
-//! | 47        | the answer, of a step 0 stepped, 1 halted, 2 fault; of a run 0 halted, 1 limit, 2 fault   |
+//! | 47        | the answer, in numbers of this file: of a step 0 stepped, 1 halted, 2 fault;              |
+//! |           | of a run 0 halted, 1 limit, 2 fault                                                       |
 //! | 48, 49    | the fault's number and value; 0 where there is none                                       |
 //! | 50        | the steps counted; 0 for a step                                                           |
 //! | 51 to 62  | the registers at the end                                                                  |
@@ -27,7 +28,7 @@ use differential::random::Random;
 use differential::reference::{silence_expected_panics, Reference};
 use differential::{model, states};
 use nilguseg::kind::{CJMPOFF, JMPOFF};
-use nilguseg::{Core, End, Fault, Run, Step};
+use nilguseg::{Core, Outcome, Run};
 
 const LENGTH: usize = 32;
 const DRAWN: usize = 600_000;
@@ -60,9 +61,14 @@ fn draw(random: &mut Random) -> Start {
     Start { core, memory, mark: if random.one_in(2) { 0 } else { random.byte() } }
 }
 
-/// The words that tell an answer: its class, its number, its value.
-fn answer_words(class: u16, fault: Option<Fault>) -> [u16; 3] {
-    fault.map_or([class, 0, 0], |fault| [class, fault.number as u16, fault.value])
+/// The words that tell an answer: its class, its number, its value. `on` and `off` are the classes of a core that goes on and of a halted one.
+fn answer_words(outcome: Outcome, on: u16, off: u16) -> [u16; 3] {
+    match outcome {
+        Outcome::Stepped | Outcome::Limit => [on, 0, 0],
+        Outcome::Halted => [off, 0, 0],
+        Outcome::Fault(fault) => [2, fault.number as u16, fault.value],
+        Outcome::Refused(_) => unreachable!("the published Rust refuses nothing"),
+    }
 }
 
 fn reference(start: &Start) -> Reference {
@@ -72,13 +78,8 @@ fn reference(start: &Start) -> Reference {
 fn step(start: &Start) -> (Class, [u16; 4], Reference) {
     let mut reference = reference(start);
     let step = reference.step();
-    let [class, number, value] = match step {
-        Step::Stepped => answer_words(0, None),
-        Step::Halted => answer_words(1, None),
-        Step::Fault(fault) => answer_words(2, Some(fault)),
-        Step::Refused(_) => unreachable!("the published Rust refuses nothing"),
-    };
-    let word = start.memory.get(start.core.ip as usize).filter(|_| step != Step::Halted);
+    let [class, number, value] = answer_words(step, 0, 1);
+    let word = start.memory.get(start.core.ip as usize).filter(|_| step != Outcome::Halted);
     let executed = word.and_then(|word| model::decode(*word).ok());
     let jump = executed.filter(|i| matches!(i.kind, JMPOFF | CJMPOFF)).map(|i| i.first);
     let class_of_step = Class::Step {
@@ -93,12 +94,7 @@ fn step(start: &Start) -> (Class, [u16; 4], Reference) {
 fn run(start: &Start, limit: u16) -> (Class, [u16; 4], Reference) {
     let mut reference = reference(start);
     let Run { end, steps } = reference.run(limit as u32);
-    let [class, number, value] = match end {
-        End::Halted => answer_words(0, None),
-        End::Limit => answer_words(1, None),
-        End::Fault(fault) => answer_words(2, Some(fault)),
-        End::Refused(_) => unreachable!("the published Rust refuses nothing"),
-    };
+    let [class, number, value] = answer_words(end, 1, 0);
     let class_of_run = Class::Run { answer: [class, number], magnitude: (steps + 1).ilog2() };
     (class_of_run, [class, number, value, steps as u16], reference)
 }

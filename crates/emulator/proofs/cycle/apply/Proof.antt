@@ -1,6 +1,6 @@
--- `emulator::cycle::apply` meets its contract: a law for each arm.
+-- `emulator::cycle::apply` meets its contract: a law for each kind of arm.
 use borrow.Author.Needs.{needs}
-use Rattle.emulator.proofs.Laws.{apply-none, apply-gpr, apply-ip, apply-rp, apply-sp, apply-ef, apply-call, apply-load, apply-load-out, apply-store, apply-store-out, apply-decimal, apply-amount, apply-negation}
+use Rattle.emulator.proofs.Laws.{apply-plain, apply-gpr, apply-load, apply-load-stopped, apply-store, apply-store-stopped}
 use Rattle.emulator.proofs.cycle.apply.Statement.{statement}
 use Rattle.emulator.proofs.cycle.apply.Tie as tie
 
@@ -50,25 +50,25 @@ apply-spec =
     (λ c κs. search needs)
     (λ c. search needs)
     (λ c κs. search needs)
-    (λ c. search apply-none)
+    (λ c. search apply-plain)
     (λ c. search apply-gpr)
-    (λ c. search apply-ip)
-    (λ c. search apply-rp)
-    (λ c. search apply-sp)
-    (λ c. search apply-ef)
-    (λ c. search apply-call)
+    (λ c. search apply-plain)
+    (λ c. search apply-plain)
+    (λ c. search apply-plain)
+    (λ c. search apply-plain)
+    (λ c. search apply-plain)
     (λ c. search needs)
     (λ c. search needs)
     (λ c. search apply-load)
     (λ c. search needs)
     (λ c. search needs)
-    (λ c. search apply-load-out)
+    (λ c. search apply-load-stopped)
     (λ c. search needs)
     (λ c. search needs)
     (λ c. search apply-store)
     (λ c. search needs)
     (λ c. search needs)
-    (λ c. search apply-store-out)
-    (λ c. search apply-decimal)
-    (λ c. search apply-amount)
-    (λ c. search apply-negation))
+    (λ c. search apply-store-stopped)
+    (λ c. search apply-plain)
+    (λ c. search apply-plain)
+    (λ c. search apply-plain))

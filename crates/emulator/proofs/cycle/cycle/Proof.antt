@@ -1,6 +1,6 @@
 -- `emulator::cycle::cycle` meets its contract: a law for each way.
 use borrow.Author.Needs.{needs}
-use Rattle.emulator.proofs.Laws.{cycle-out, cycle-undecodable, cycle-decoded}
+use Rattle.emulator.proofs.Laws.{cycle-stopped, cycle-undecodable, cycle-decoded}
 use Rattle.emulator.proofs.cycle.cycle.Statement.{statement}
 use Rattle.emulator.proofs.cycle.cycle.Tie as tie
 
@@ -21,7 +21,7 @@ cycle-spec =
     (λ c κs. search needs)
     (λ c. search needs)
     (λ c. search needs)
-    (λ c. search cycle-out)
+    (λ c. search cycle-stopped)
     (λ c. search needs)
     (λ c. search needs)
     (λ c. search cycle-undecodable)

@@ -3,13 +3,14 @@
 use Prim.Native.Nat.{_-_}
 use borrow.Author.Needs.{needs}
 use Rattle.emulator.specs.Core.{coreOf}
+use Rattle.emulator.specs.Memory.{lent}
 use Rattle.emulator.proofs.Runs.{Running, running-start, running-step, end-halted, end-limit, end-fault}
 use Rattle.emulator.proofs.cycle.turns.Statement.{statement}
 use Rattle.emulator.proofs.cycle.turns.Tie as tie
 
 abbrev Inv-loop : tie.InvT-loop
 Inv-loop memory₀ marks₀ limit gprs₀ ip₀ rp₀ sp₀ ef₀ steps₀ memory marks gprs ip rp sp ef steps =
-    Running limit (coreOf gprs₀ ip₀ rp₀ sp₀ ef₀) memory₀ marks₀ (coreOf gprs ip rp sp ef) memory marks steps
+    Running limit (coreOf gprs₀ ip₀ rp₀ sp₀ ef₀) (lent memory₀ marks₀) (coreOf gprs ip rp sp ef) (lent memory marks) steps
 
 abbrev μ-loop : tie.MeasureT-loop
 μ-loop memory₀ marks₀ limit gprs₀ ip₀ rp₀ sp₀ ef₀ steps₀ memory marks gprs ip rp sp ef steps = limit - steps

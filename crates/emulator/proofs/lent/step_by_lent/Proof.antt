@@ -44,7 +44,8 @@ use denote.Triple.Table.{entered, cited}
 use denote.Triple.Walked.{says, Stays, stay-none, gave-slice, walkOf, goes-none, goes-gave-slice, Walks, ends-at, walked, walk-meets}
 use denote.Exit.{yes}
 use Rattle.emulator.specs.Outcome.{answerOf}
-use Rattle.emulator.specs.Machine.{turn, stepOf}
+use Rattle.emulator.specs.Memory.{lent}
+use Rattle.emulator.specs.Machine.{planOf, turn, stepOf}
 use Rattle.emulator.specs.declared.core.Answer.{Answer}
 use Rattle.emulator.specs.declared.core.Core.{Core}
 use Rattle.emulator.specs.declared.core.Step.{Step}
@@ -137,7 +138,7 @@ module _ {M : Type 1} (𝓤 : URA M) (H : Heap 𝓤) (A : Atoms 𝓤) (W : Given
 
   -- what `step_lent` ensures, at the core and the lists at exit
   abbrev Did : Answer → Core → List ℕ → List ℕ → Type 0
-  Did n c ys′ ks′ = turn (answerOf n) c ys′ ks′ ≡ stepOf h ys ks
+  Did n c ys′ ks′ = turn (answerOf n) c (lent ys′ ks′) ≡ stepOf planOf h (lent ys ks)
 
   exits : (n : Answer) (c : Core) (ys′ ks′ : List ℕ) → Did n c ys′ ks′ → length ys′ ≡ length ys → length ks′ ≡ length ks → Is S.the-row (record { core = c; answer = n }) (step-val (record { core = c; answer = n }) ∷ [])
       → ent 𝓤 (⋆ 𝓤 H A ((‵ (flft κ₁ q₁) ⊛ ‵ (flft κ₂ q₂) ⊛ ‵ ftrue) ∷ ‵ (finally u8 γ₂ ks′) ∷ ‵ (finally u16 γ₁ ys′) ∷ [])) (Post (step-val (record { core = c; answer = n })))

@@ -41,7 +41,8 @@ use denote.Triple.Clauses.{ensured, lasts}
 use denote.Triple.Table.{entered, cited}
 use denote.Triple.Walked.{says, Stays, stay-ref, gave-slice, walkOf, goes-ref, goes-gave-slice, Walks, ends-at, walked, walk-meets}
 use Rattle.emulator.specs.Outcome.{answerOf}
-use Rattle.emulator.specs.Machine.{turn, stepOf}
+use Rattle.emulator.specs.Memory.{lent}
+use Rattle.emulator.specs.Machine.{planOf, turn, stepOf}
 use Rattle.emulator.specs.declared.core.Answer.{Answer}
 use Rattle.emulator.specs.declared.core.Core.{Core}
 use Rattle.emulator.specs.declared.core.Step.{Step}
@@ -117,7 +118,7 @@ module _ {M : Type 1} (𝓤 : URA M) (H : Heap 𝓤) (A : Atoms 𝓤) (W : Given
 
   -- what `Core::step` ensures, at the lists ys′ and ks′ at exit
   abbrev Did : Step → List ℕ → List ℕ → Type 0
-  Did s ys′ ks′ = turn (answerOf (s .answer)) (s .core) ys′ ks′ ≡ stepOf h ys ks
+  Did s ys′ ks′ = turn (answerOf (s .answer)) (s .core) (lent ys′ ks′) ≡ stepOf planOf h (lent ys ks)
 
   exits : (s : Step) (ys′ ks′ : List ℕ) → Did s ys′ ks′ → length ys′ ≡ length ys → length ks′ ≡ length ks → Is N.the-row (s .answer) (answer-val (s .answer) ∷ [])
       → ent 𝓤 (⋆ 𝓤 H A (‵ (fobs γ (R.the-row .coded .code (s .core))) ∷ ‵ (fbor κ (Body (mem R.the-row) b o γ)) ∷ ‵ (flft κ q) ∷ (‵ (flft κ₁ q₁) ⊛ ‵ (flft κ₂ q₂) ⊛ ‵ ftrue) ∷ ‵ (finally u8 γ₂ ks′) ∷ ‵ (finally u16 γ₁ ys′) ∷ [])) (Post (answer-val (s .answer)))

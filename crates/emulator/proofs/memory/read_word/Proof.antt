@@ -1,5 +1,5 @@
 -- `emulator::memory::read_word` meets its contract, by the range of the address.
-use Rattle.emulator.proofs.Laws.{read-in, read-past, set-to, set-past-marks}
+use Rattle.emulator.proofs.Laws.{read-in, read-past}
 use borrow.Author.Needs.{needs}
 use Rattle.emulator.proofs.memory.read_word.Statement.{statement}
 use Rattle.emulator.proofs.memory.read_word.Tie as tie
@@ -8,11 +8,11 @@ pub read-word-spec : {M : Type 1} → statement M
 read-word-spec =
     tie.close
     (tie.spec
-    (λ c. search (read-past, set-past-marks))
+    (λ c. search read-past)
     (λ c. search needs)
     (λ c κs. search needs)
     (λ c. search needs)
     (λ c. search needs)
     (λ c. search needs)
     (λ c. search needs)
-    (λ c. search (read-in, set-to)))
+    (λ c. search read-in))

@@ -1,5 +1,5 @@
 -- `emulator::memory::write_word` meets its contract, by the range of the address.
-use Rattle.emulator.proofs.Laws.{write-in, write-past, set-to, set-past, set-past-marks}
+use Rattle.emulator.proofs.Laws.{write-in, write-past}
 use borrow.Author.Needs.{needs}
 use Rattle.emulator.proofs.memory.write_word.Statement.{statement}
 use Rattle.emulator.proofs.memory.write_word.Tie as tie
@@ -8,7 +8,7 @@ pub write-word-spec : {M : Type 1} → statement M
 write-word-spec =
     tie.close
     (tie.spec
-    (λ c. search (write-past, set-past, set-past-marks))
+    (λ c. search write-past)
     (λ c. search needs)
     (λ c κs. search needs)
     (λ c. search needs)
@@ -16,4 +16,4 @@ write-word-spec =
     (λ c. search needs)
     (λ c. search needs)
     (λ c. search needs)
-    (λ c. search (write-in, set-to)))
+    (λ c. search write-in))

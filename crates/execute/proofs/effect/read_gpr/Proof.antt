@@ -3,8 +3,5 @@ use borrow.Author.Needs.{needs}
 use Rattle.execute.proofs.effect.read_gpr.Statement.{statement}
 use Rattle.execute.proofs.effect.read_gpr.Tie as tie
 
-returns : tie.Need-returns
-returns c = rw (c .before .encode .ensures .0)
-
 pub read-gpr-spec : {M : Type 1} → statement M
-read-gpr-spec = tie.close (tie.spec (λ c κs. search needs) (λ c. search needs) (λ c. search needs) (λ c. search needs) returns)
+read-gpr-spec = tie.close (tie.spec (λ c κs. search needs) (λ c. search needs) (λ c. search needs) (λ c. search needs) (λ c. cc))

@@ -4,8 +4,5 @@ use Rattle.execute.proofs.Laws.{low-byte}
 use Rattle.execute.proofs.word.with_low.Statement.{statement}
 use Rattle.execute.proofs.word.with_low.Tie as tie
 
-returns : tie.Need-returns
-returns c = low-byte (c .args .a) (c .args .b) (search needs) (search needs)
-
 pub with-low-spec : {M : Type 1} → statement M
-with-low-spec = tie.close (tie.spec returns)
+with-low-spec = tie.close (tie.spec (λ c. search (low-byte, needs)))

@@ -1,11 +1,9 @@
 -- `step_number` meets its contract: each answer has its number.
 -- Assumes nothing.
+use Rattle.nilguseg.proofs.NumberLaws.{refused-answered}
 use borrow.Author.Needs.{needs}
 use Rattle.nilguseg.proofs.number.step_number.Statement.{statement}
 use Rattle.nilguseg.proofs.number.step_number.Tie as tie
-
-refused : tie.Need-returns-4
-refused c = rw (c .before .before .answer2 .given .1, c .number3 .ensures)
 
 pub step-number-spec : {M : Type 1} → statement M
 step-number-spec =
@@ -22,4 +20,4 @@ step-number-spec =
     (λ c. search needs)
     (λ c. search needs)
     (λ c. search needs)
-    refused)
+    (λ c. search refused-answered))

@@ -1,7 +1,7 @@
 -- `sheet::input::records` meets its contract: a law for each answer.
 use native.Mathlib.Omega.{arith}
 use borrow.Author.Needs.{needs}
-use Rattle.sheet.proofs.InputLaws.{input-part, input-long, input-room, input-done}
+use Rattle.sheet.proofs.InputLaws.{input-part, input-long, input-done}
 use Rattle.sheet.proofs.input.records.Statement.{statement}
 use Rattle.sheet.proofs.input.records.Tie as tie
 
@@ -11,7 +11,5 @@ records-spec =
     (tie.spec
     (λ c. search input-part)
     (λ c. search input-long)
-    (λ c. search input-room)
-    (λ c κs. omega arith)
-    (λ c. search needs)
-    (λ c. search input-done))
+    (λ c κs. search needs)
+    (λ c. input-done _ _ (omega arith) (omega arith) (omega arith) (search needs)))

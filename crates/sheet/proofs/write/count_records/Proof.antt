@@ -27,4 +27,4 @@ count-records-spec =
     (λ c. omega arith)
     (λ c. omega arith)
     (λ c. search counting-next)
-    (λ c. (search counting-done, omega arith)))
+    (λ c. search counting-done))

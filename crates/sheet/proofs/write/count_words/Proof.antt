@@ -27,4 +27,4 @@ count-words-spec =
     (λ c. omega arith)
     (λ c. omega arith)
     (λ c. search summing-next)
-    (λ c. (search summing-done, omega arith)))
+    (λ c. search summing-done))

@@ -25,6 +25,7 @@ put-presets-spec =
     (λ c. omega arith)
     (λ c. omega arith)
     (λ c. omega arith)
+    (λ c. omega arith)
     (λ c. search presetting-next)
     (λ c. search needs)
     (λ c. search presetting-done))

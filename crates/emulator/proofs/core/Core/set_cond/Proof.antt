@@ -1,11 +1,11 @@
 -- `emulator::core::Core::set_cond` meets its contract.
--- Assumes nothing.
 use borrow.Author.Needs.{needs}
 use Rattle.emulator.proofs.core.Core.set_cond.Statement.{statement}
 use Rattle.emulator.proofs.core.Core.set_cond.Tie as tie
 
-returns : tie.Need-returns
-returns c = rw (c .with-cond .ensures)
-
 pub set-cond-spec : {M : Type 1} → statement M
-set-cond-spec = tie.close (tie.spec (λ c κs. search needs) returns)
+set-cond-spec =
+    tie.close
+    (tie.spec
+    (λ c κs. search needs)
+    (λ c. cc))

@@ -1,18 +1,9 @@
 -- `SpecialPurposeRegister::decode` meets its contract.
 -- Assumes nothing.
 use borrow.Author.Needs.{needs}
-use borrow.Author.Tests.{lt-ltb, le-ltb}
+use Rattle.opcode.proofs.Chosen.{chosen}
 use Rattle.instructions.proofs.reg.SpecialPurposeRegister.decode.Statement.{statement}
 use Rattle.instructions.proofs.reg.SpecialPurposeRegister.decode.Tie as tie
 
-from-low-bits-requires : tie.Need-from-low-bits-requires
-from-low-bits-requires c κs = search needs
-
-returns : tie.Need-returns
-returns c = simp (lt-ltb _ _ (c .before .if1 .taken), c .from-low-bits .ensures)
-
-returns-2 : tie.Need-returns-2
-returns-2 c = simp (le-ltb _ _ (c .if1 .left))
-
 pub decode-spec : {M : Type 1} → statement M
-decode-spec = tie.close (tie.spec from-low-bits-requires returns returns-2)
+decode-spec = tie.close (tie.spec (λ c. search needs) (λ c κs. search needs) (λ c. search chosen) (λ c. search chosen))

@@ -1,18 +1,17 @@
--- `main` is safe and ends: the kinds are printed one by one.
--- Assumes nothing.
+-- `core_at` is safe and ends: the registers are passed one by one.
 use Prim.Native.Nat.{_≤_, _-_}
 use borrow.Author.Needs.{needs}
-use Rattle.words_test.proofs.main.Statement.{statement}
-use Rattle.words_test.proofs.main.Tie as tie
+use Rattle.replay_test.proofs.case.core_at.Statement.{statement}
+use Rattle.replay_test.proofs.case.core_at.Tie as tie
 
 abbrev Inv-loop : tie.InvT-loop
-Inv-loop t k₀ t3 t4 t5 k = k ≤ 43
+Inv-loop case at core₀ i₀ core i = i ≤ 8
 
 abbrev μ-loop : tie.MeasureT-loop
-μ-loop t k₀ t3 t4 t5 k = 43 - k
+μ-loop case at core₀ i₀ core i = 8 - i
 
-pub main-spec : {M : Type 1} → statement M
-main-spec =
+pub core-at-spec : {M : Type 1} → statement M
+core-at-spec =
     tie.close
     (tie.spec
     Inv-loop
@@ -20,18 +19,19 @@ main-spec =
     (λ c κs. search needs)
     (λ c. search needs)
     (λ c. search needs)
+    (λ c κs. search needs)
     (λ c. search needs)
+    (λ c κs. search needs)
+    (λ c κs. search needs)
     (λ c. search needs)
     (λ c. search needs)
     (λ c. search needs)
     (λ c. search needs)
     (λ c κs. search needs)
-    (λ c. search needs)
-    (λ c. search needs)
     (λ c κs. search needs)
     (λ c. search needs)
-    (λ c. search needs)
-    (λ c. search needs)
+    (λ c κs. search needs)
+    (λ c κs. search needs)
     (λ c. search needs)
     (λ c κs. search needs)
     (λ c κs. search needs)
