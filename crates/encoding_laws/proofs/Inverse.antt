@@ -1,24 +1,23 @@
 -- `decodeOf` is the inverse of `encodeOf`.
 -- Assumes nothing.
 use mathlib.Core.Path.{_≡_, _∙_, refl, subst}
-use mathlib.Core.Bool.{Bool, true}
+use mathlib.Core.Bool.{Bool}
 use Prim.Native.Nat.{ℕ, _+_, _*_, _/_, _%_, _<_}
 use native.Mathlib.Omega.{arith}
-use lib.Dec.{T, eqb, ltb, eqb→eq}
+use lib.Dec.{T, eqb, eqb→eq}
 use Rattle.instructions.specs.Encoding.{encodeOf}
 use Rattle.encoding_laws.specs.Reduced.{byteOf, reduced}
 use Rattle.instructions.specs.Reg.{gprNumber, gprAt}
 use Rattle.instructions.specs.declared.reg.GeneralPurposeRegister.{GeneralPurposeRegister}
-use Rattle.instructions.specs.declared.reg.SpecialPurposeRegister.{SpecialPurposeRegister}
-use Rattle.instructions.specs.declared.reg.DecimalRegister.{DecimalRegister}
 use Rattle.instructions.specs.declared.ins.Instruction.the-variants.{Nop, Hlt, Mov, DMov, Putl, Puth, Read, Write, Spread, Spwrite, DRead, DWrite, Push, Pop, Movso, Movsi, Spadd, Spinc, Spdec, Not, And, Booland, Or, Xor, Shl, Shr, Bitset, Neg, Inc, Dec, Add, Sub, Mul, Inv, Eqz, Eq, Gt, Gteq, Jmpoff, Cjmpoff, Cjmp, Call, Ret}
-use borrow.Author.Tests.{lt-ltb, le-ltb, ltb-true}
+use borrow.Author.Tests.{lt-ltb, le-ltb}
 use Rattle.instructions.specs.Decoding.{decodeOf, decodeBytes}
+use Rattle.instructions.proofs.RegLaws.{Sort, general, special, decimal, gpr-at, gpr-below}
 use Rattle.instructions.specs.declared.ins.Instruction.{Instruction}
 use Rattle.instructions.specs.declared.ins.encoding.Decoded.{Decoded}
 use Rattle.instructions.specs.declared.ins.encoding.Decoded.the-variants.{Ins, Undecodable}
 use Rattle.encoding_laws.specs.Inverse.{Inverse}
-use Rattle.encoding_laws.proofs.Table.{every, at, gprs, sprs, drs, by-gprs, by-sprs, by-drs}
+use Rattle.encoding_laws.proofs.Table.{every, at}
 
 -- the answer leads back to the word
 abbrev back : ℕ → Decoded → Bool
@@ -57,58 +56,40 @@ bytes h l w e s =
     let el : w % 256 ≡ l = omega arith in
     rw (eh, el)
 
-small : (r : GeneralPurposeRegister) → gprNumber r < 8
-small r = ltb-true _ _ (by-gprs (λ r. ltb (gprNumber r) 8) (λ r. true) refl r)
+-- an instruction of one register, and of two
+ones : {R : Type 0} (s : Sort R) (k : R → Instruction) → s .values (λ q. decodeOf (encodeOf (k q))) ≡ s .values (λ q. Ins (k q)) → (q : R) → decodeOf (encodeOf (k q)) ≡ Ins (k q)
+ones s k e = s .equal (λ q. decodeOf (encodeOf (k q))) (λ q. Ins (k q)) e
 
-number : (r : GeneralPurposeRegister) → gprAt (gprNumber r) ≡ r
-number r = by-gprs (λ r. gprAt (gprNumber r)) (λ r. r) refl r
-
-ones : (k : GeneralPurposeRegister → Instruction) → gprs (λ q. decodeOf (encodeOf (k q))) ≡ gprs (λ q. Ins (k q)) → (q : GeneralPurposeRegister) → decodeOf (encodeOf (k q)) ≡ Ins (k q)
-ones k e = by-gprs (λ q. decodeOf (encodeOf (k q))) (λ q. Ins (k q)) e
-
-pairs-gg : (k : GeneralPurposeRegister → GeneralPurposeRegister → Instruction) → gprs (λ p. gprs (λ q. decodeOf (encodeOf (k p q)))) ≡ gprs (λ p. gprs (λ q. Ins (k p q))) → (p : GeneralPurposeRegister) (q : GeneralPurposeRegister) → decodeOf (encodeOf (k p q)) ≡ Ins (k p q)
-pairs-gg k e p = by-gprs (λ q. decodeOf (encodeOf (k p q))) (λ q. Ins (k p q)) (by-gprs (λ p. gprs (λ q. decodeOf (encodeOf (k p q)))) (λ p. gprs (λ q. Ins (k p q))) e p)
-
-pairs-dd : (k : DecimalRegister → DecimalRegister → Instruction) → drs (λ p. drs (λ q. decodeOf (encodeOf (k p q)))) ≡ drs (λ p. drs (λ q. Ins (k p q))) → (p : DecimalRegister) (q : DecimalRegister) → decodeOf (encodeOf (k p q)) ≡ Ins (k p q)
-pairs-dd k e p = by-drs (λ q. decodeOf (encodeOf (k p q))) (λ q. Ins (k p q)) (by-drs (λ p. drs (λ q. decodeOf (encodeOf (k p q)))) (λ p. drs (λ q. Ins (k p q))) e p)
-
-pairs-dg : (k : DecimalRegister → GeneralPurposeRegister → Instruction) → drs (λ p. gprs (λ q. decodeOf (encodeOf (k p q)))) ≡ drs (λ p. gprs (λ q. Ins (k p q))) → (p : DecimalRegister) (q : GeneralPurposeRegister) → decodeOf (encodeOf (k p q)) ≡ Ins (k p q)
-pairs-dg k e p = by-gprs (λ q. decodeOf (encodeOf (k p q))) (λ q. Ins (k p q)) (by-drs (λ p. gprs (λ q. decodeOf (encodeOf (k p q)))) (λ p. gprs (λ q. Ins (k p q))) e p)
-
-pairs-gd : (k : GeneralPurposeRegister → DecimalRegister → Instruction) → gprs (λ p. drs (λ q. decodeOf (encodeOf (k p q)))) ≡ gprs (λ p. drs (λ q. Ins (k p q))) → (p : GeneralPurposeRegister) (q : DecimalRegister) → decodeOf (encodeOf (k p q)) ≡ Ins (k p q)
-pairs-gd k e p = by-drs (λ q. decodeOf (encodeOf (k p q))) (λ q. Ins (k p q)) (by-gprs (λ p. drs (λ q. decodeOf (encodeOf (k p q)))) (λ p. drs (λ q. Ins (k p q))) e p)
-
-pairs-gs : (k : GeneralPurposeRegister → SpecialPurposeRegister → Instruction) → gprs (λ p. sprs (λ q. decodeOf (encodeOf (k p q)))) ≡ gprs (λ p. sprs (λ q. Ins (k p q))) → (p : GeneralPurposeRegister) (q : SpecialPurposeRegister) → decodeOf (encodeOf (k p q)) ≡ Ins (k p q)
-pairs-gs k e p = by-sprs (λ q. decodeOf (encodeOf (k p q))) (λ q. Ins (k p q)) (by-gprs (λ p. sprs (λ q. decodeOf (encodeOf (k p q)))) (λ p. sprs (λ q. Ins (k p q))) e p)
-
-pairs-sg : (k : SpecialPurposeRegister → GeneralPurposeRegister → Instruction) → sprs (λ p. gprs (λ q. decodeOf (encodeOf (k p q)))) ≡ sprs (λ p. gprs (λ q. Ins (k p q))) → (p : SpecialPurposeRegister) (q : GeneralPurposeRegister) → decodeOf (encodeOf (k p q)) ≡ Ins (k p q)
-pairs-sg k e p = by-gprs (λ q. decodeOf (encodeOf (k p q))) (λ q. Ins (k p q)) (by-sprs (λ p. gprs (λ q. decodeOf (encodeOf (k p q)))) (λ p. gprs (λ q. Ins (k p q))) e p)
+pairs : {P Q : Type 0} (s : Sort P) (t : Sort Q) (k : P → Q → Instruction)
+    → s .values (λ p. t .values (λ q. decodeOf (encodeOf (k p q)))) ≡ s .values (λ p. t .values (λ q. Ins (k p q)))
+    → (p : P) (q : Q) → decodeOf (encodeOf (k p q)) ≡ Ins (k p q)
+pairs s t k e p = ones t (k p) (s .equal (λ p. t .values (λ q. decodeOf (encodeOf (k p q)))) (λ p. t .values (λ q. Ins (k p q))) e p)
 
 putl : (r : GeneralPurposeRegister) (imm : ℕ) → imm < 256 → decodeOf (encodeOf (Putl r imm)) ≡ Ins (Putl r imm)
 putl r imm h =
     bytes (0x10 + gprNumber r) imm _ (omega arith) h ∙
-    by-gprs (λ r. decodeBytes (encodeOf (Putl r imm)) (0x10 + gprNumber r) imm) (λ r. Ins (Putl r imm)) refl r
+    general .equal (λ r. decodeBytes (encodeOf (Putl r imm)) (0x10 + gprNumber r) imm) (λ r. Ins (Putl r imm)) refl r
 
 puth : (r : GeneralPurposeRegister) (imm : ℕ) → imm < 256 → decodeOf (encodeOf (Puth r imm)) ≡ Ins (Puth r imm)
 puth r imm h =
     bytes (0x18 + gprNumber r) imm _ (omega arith) h ∙
-    by-gprs (λ r. decodeBytes (encodeOf (Puth r imm)) (0x18 + gprNumber r) imm) (λ r. Ins (Puth r imm)) refl r
+    general .equal (λ r. decodeBytes (encodeOf (Puth r imm)) (0x18 + gprNumber r) imm) (λ r. Ins (Puth r imm)) refl r
 
 high : (r : GeneralPurposeRegister) → gprAt (8 + gprNumber r) ≡ r
-high r = by-gprs (λ r. gprAt (8 + gprNumber r)) (λ r. r) refl r
+high r = general .equal (λ r. gprAt (8 + gprNumber r)) (λ r. r) refl r
 
 spread : (r : GeneralPurposeRegister) (offset : ℕ) → decodeOf (encodeOf (Spread r offset)) ≡ Ins (Spread r (offset % 16))
 spread r offset =
-    let s = small r in
+    let s = gpr-below r in
     let lo : ℕ = gprNumber r * 16 + offset % 16 in
     let ep : lo / 16 ≡ gprNumber r = omega arith in
     let eo : lo % 16 ≡ offset % 16 = omega arith in
     bytes 0x30 lo (encodeOf (Spread r offset)) (omega arith) (omega arith) ∙
-    simp (lt-ltb lo 0x80 (omega arith), ep, eo, number r)
+    simp (lt-ltb lo 0x80 (omega arith), ep, eo, gpr-at r)
 
 spwrite : (r : GeneralPurposeRegister) (offset : ℕ) → decodeOf (encodeOf (Spwrite offset r)) ≡ Ins (Spwrite (offset % 16) r)
 spwrite r offset =
-    let s = small r in
+    let s = gpr-below r in
     let lo : ℕ = 0x80 + gprNumber r * 16 + offset % 16 in
     let ep : lo / 16 ≡ 8 + gprNumber r = omega arith in
     let eo : lo % 16 ≡ offset % 16 = omega arith in
@@ -120,46 +101,46 @@ decode-encode : (i : Instruction) → byteOf i < 256 → decodeOf (encodeOf i) �
 unfolding decodeOf
 decode-encode Nop h = refl
 decode-encode Hlt h = refl
-decode-encode (Mov dest src) h = pairs-gg Mov refl dest src
-decode-encode (DMov dest src) h = pairs-dd DMov refl dest src
+decode-encode (Mov dest src) h = pairs general general Mov refl dest src
+decode-encode (DMov dest src) h = pairs decimal decimal DMov refl dest src
 decode-encode (Putl reg imm) h = putl reg imm h
 decode-encode (Puth reg imm) h = puth reg imm h
-decode-encode (Read val addr) h = pairs-gg Read refl val addr
-decode-encode (Write addr val) h = pairs-gg Write refl addr val
+decode-encode (Read val addr) h = pairs general general Read refl val addr
+decode-encode (Write addr val) h = pairs general general Write refl addr val
 decode-encode (Spread val offset) h = spread val offset
 decode-encode (Spwrite offset val) h = spwrite val offset
-decode-encode (DRead val addr) h = pairs-dg DRead refl val addr
-decode-encode (DWrite addr val) h = pairs-gd DWrite refl addr val
-decode-encode (Push val) h = ones Push refl val
-decode-encode (Pop val) h = ones Pop refl val
-decode-encode (Movso dest src) h = pairs-gs Movso refl dest src
-decode-encode (Movsi dest src) h = pairs-sg Movsi refl dest src
-decode-encode (Spadd val) h = ones Spadd refl val
+decode-encode (DRead val addr) h = pairs decimal general DRead refl val addr
+decode-encode (DWrite addr val) h = pairs general decimal DWrite refl addr val
+decode-encode (Push val) h = ones general Push refl val
+decode-encode (Pop val) h = ones general Pop refl val
+decode-encode (Movso dest src) h = pairs general special Movso refl dest src
+decode-encode (Movsi dest src) h = pairs special general Movsi refl dest src
+decode-encode (Spadd val) h = ones general Spadd refl val
 decode-encode Spinc h = refl
 decode-encode Spdec h = refl
-decode-encode (Not reg) h = ones Not refl reg
-decode-encode (And reg val) h = pairs-gg And refl reg val
-decode-encode (Booland reg val) h = pairs-gg Booland refl reg val
-decode-encode (Or reg val) h = pairs-gg Or refl reg val
-decode-encode (Xor reg val) h = pairs-gg Xor refl reg val
-decode-encode (Shl reg val) h = pairs-gg Shl refl reg val
-decode-encode (Shr reg val) h = pairs-gg Shr refl reg val
-decode-encode (Bitset reg idx) h = pairs-gg Bitset refl reg idx
-decode-encode (Neg reg) h = ones Neg refl reg
-decode-encode (Inc reg) h = ones Inc refl reg
-decode-encode (Dec reg) h = ones Dec refl reg
-decode-encode (Add reg val) h = pairs-gg Add refl reg val
-decode-encode (Sub reg val) h = pairs-gg Sub refl reg val
-decode-encode (Mul reg val) h = pairs-gg Mul refl reg val
+decode-encode (Not reg) h = ones general Not refl reg
+decode-encode (And reg val) h = pairs general general And refl reg val
+decode-encode (Booland reg val) h = pairs general general Booland refl reg val
+decode-encode (Or reg val) h = pairs general general Or refl reg val
+decode-encode (Xor reg val) h = pairs general general Xor refl reg val
+decode-encode (Shl reg val) h = pairs general general Shl refl reg val
+decode-encode (Shr reg val) h = pairs general general Shr refl reg val
+decode-encode (Bitset reg idx) h = pairs general general Bitset refl reg idx
+decode-encode (Neg reg) h = ones general Neg refl reg
+decode-encode (Inc reg) h = ones general Inc refl reg
+decode-encode (Dec reg) h = ones general Dec refl reg
+decode-encode (Add reg val) h = pairs general general Add refl reg val
+decode-encode (Sub reg val) h = pairs general general Sub refl reg val
+decode-encode (Mul reg val) h = pairs general general Mul refl reg val
 decode-encode Inv h = refl
-decode-encode (Eqz reg) h = ones Eqz refl reg
-decode-encode (Eq left right) h = pairs-gg Eq refl left right
-decode-encode (Gt left right) h = pairs-gg Gt refl left right
-decode-encode (Gteq left right) h = pairs-gg Gteq refl left right
+decode-encode (Eqz reg) h = ones general Eqz refl reg
+decode-encode (Eq left right) h = pairs general general Eq refl left right
+decode-encode (Gt left right) h = pairs general general Gt refl left right
+decode-encode (Gteq left right) h = pairs general general Gteq refl left right
 decode-encode (Jmpoff offset) h = bytes 0x60 offset (encodeOf (Jmpoff offset)) (omega arith) h
 decode-encode (Cjmpoff offset) h = bytes 0x61 offset (encodeOf (Cjmpoff offset)) (omega arith) h
-decode-encode (Cjmp src) h = ones Cjmp refl src
-decode-encode (Call src) h = ones Call refl src
+decode-encode (Cjmp src) h = ones general Cjmp refl src
+decode-encode (Call src) h = ones general Call refl src
 decode-encode Ret h = refl
 
 pub inverse : Inverse

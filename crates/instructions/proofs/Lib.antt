@@ -1,1 +1,2 @@
 pub mod Law
+pub mod RegLaws

@@ -3,70 +3,18 @@
 -- Assumes nothing.
 use mathlib.Core.Path.{_≡_, refl, sym}
 use Prim.Native.Nat.{_<_}
-use native.Mathlib.Omega.{arith}
-use Rattle.instructions.specs.Encoding.{encodeOf}
-use Rattle.instructions.specs.Reg.{gprNumber, gprAt, sprNumber, sprAt, drNumber, drAt}
-use Rattle.instructions.specs.declared.reg.GeneralPurposeRegister.{GeneralPurposeRegister}
-use Rattle.instructions.specs.declared.reg.GeneralPurposeRegister.the-variants.{R0, R1, R2, R3, R4, R5, R6, R7}
-use Rattle.instructions.specs.declared.reg.SpecialPurposeRegister.{SpecialPurposeRegister}
-use Rattle.instructions.specs.declared.reg.SpecialPurposeRegister.the-variants.{IP, RP, SP, EF}
-use Rattle.instructions.specs.declared.reg.DecimalRegister.{DecimalRegister}
-use Rattle.instructions.specs.declared.reg.DecimalRegister.the-variants.{D0, D1, D2, D3}
+use Rattle.instructions.proofs.RegLaws.{gpr-at, gpr-below, spr-at, spr-below, dr-at, dr-below}
 use Rattle.instructions.specs.declared.ins.Instruction.{Instruction}
 use Rattle.instructions.specs.declared.ins.Instruction.the-variants.{Nop, Hlt, Mov, DMov, Putl, Puth, Read, Write, Spread, Spwrite, DRead, DWrite, Push, Pop, Movso, Movsi, Spadd, Spinc, Spdec, Not, And, Booland, Or, Xor, Shl, Shr, Bitset, Neg, Inc, Dec, Add, Sub, Mul, Inv, Eqz, Eq, Gt, Gteq, Jmpoff, Cjmpoff, Cjmp, Call, Ret}
-use Rattle.nilguseg_words.specs.Instruction.{numbersOf, kindAt, kinds, encodedNumber}
+use Rattle.nilguseg_words.specs.Instruction.{numbersOf, kindAt, kinds, NumbersEncode}
 use Rattle.nilguseg_words.proofs.KindLaws.{encoded}
 
-gpr-at : (r : GeneralPurposeRegister) → gprAt (gprNumber r) ≡ r
-gpr-at R0 = refl
-gpr-at R1 = refl
-gpr-at R2 = refl
-gpr-at R3 = refl
-gpr-at R4 = refl
-gpr-at R5 = refl
-gpr-at R6 = refl
-gpr-at R7 = refl
-
-gpr-below : (r : GeneralPurposeRegister) → gprNumber r < 8
-gpr-below R0 = omega arith
-gpr-below R1 = omega arith
-gpr-below R2 = omega arith
-gpr-below R3 = omega arith
-gpr-below R4 = omega arith
-gpr-below R5 = omega arith
-gpr-below R6 = omega arith
-gpr-below R7 = omega arith
-
-spr-at : (r : SpecialPurposeRegister) → sprAt (sprNumber r) ≡ r
-spr-at IP = refl
-spr-at RP = refl
-spr-at SP = refl
-spr-at EF = refl
-
-spr-below : (r : SpecialPurposeRegister) → sprNumber r < 4
-spr-below IP = omega arith
-spr-below RP = omega arith
-spr-below SP = omega arith
-spr-below EF = omega arith
-
-dr-at : (r : DecimalRegister) → drAt (drNumber r) ≡ r
-dr-at D0 = refl
-dr-at D1 = refl
-dr-at D2 = refl
-dr-at D3 = refl
-
-dr-below : (r : DecimalRegister) → drNumber r < 4
-dr-below D0 = omega arith
-dr-below D1 = omega arith
-dr-below D2 = omega arith
-dr-below D3 = omega arith
-
-pub record Undone (i : Instruction) : Type 0 where
+record Undone (i : Instruction) : Type 0 where
   pub first-fits : numbersOf i .first < kindAt (numbersOf i .kind) .first
   pub second-fits : numbersOf i .second < kindAt (numbersOf i .kind) .second
   pub same : kindAt (numbersOf i .kind) .made (numbersOf i .first) (numbersOf i .second) ≡ i
 
-pub undone : (i : Instruction) → numbersOf i .first < 256 → numbersOf i .second < 256 → Undone i
+undone : (i : Instruction) → numbersOf i .first < 256 → numbersOf i .second < 256 → Undone i
 unfolding kindAt kinds
 undone Nop f s = record { first-fits = f; second-fits = s; same = refl }
 undone Hlt f s = record { first-fits = f; second-fits = s; same = refl }
@@ -113,8 +61,7 @@ undone (Call src) f s = record { first-fits = gpr-below src; second-fits = s; sa
 undone Ret f s = record { first-fits = f; second-fits = s; same = refl }
 
 -- so encoding its numbers gives its word
-pub encoded-numbers : (i : Instruction) → numbersOf i .first < 256 → numbersOf i .second < 256 →
-    encodedNumber (numbersOf i .kind) (numbersOf i .first) (numbersOf i .second) ≡ encodeOf i
-encoded-numbers i f s =
+pub numbers-encode : NumbersEncode
+numbers-encode i f s =
     let u = undone i f s in
     sym (encoded (numbersOf i .kind) (numbersOf i .first) (numbersOf i .second) refl refl (u .first-fits) (u .second-fits) (sym (u .same)) refl)

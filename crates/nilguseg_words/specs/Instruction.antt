@@ -1,7 +1,8 @@
 -- The numbers of an instruction for a host: its kind from 0 to 42 in the order of the enum, and its operands. Documents name no such
 -- numbers; a register has its own (document 01, Records).
-use Prim.Native.Nat.{ℕ, _+_, _*_, _^_}
+use Prim.Native.Nat.{ℕ, _+_, _*_, _^_, _<_}
 use mathlib.Core.List.{List, [], _∷_}
+use mathlib.Core.Path.{_≡_}
 use lib.Dec.{ltb}
 use lib.ListN.{getD}
 use Rattle.instructions.specs.Choice.{if_then_else_}
@@ -190,3 +191,9 @@ wordOf k a b = if ltb a (k .first) then (if ltb b (k .second) then encodeOf (k .
 
 abbrev pub encodedNumber : ℕ → ℕ → ℕ → ℕ
 encodedNumber k a b = wordOf (kindAt k) a b
+
+-- what decoding says of an instruction, encoding takes: its numbers, which are bytes as in every value of the code, encode to its word
+abbrev pub NumbersEncode : Type 0
+NumbersEncode =
+    (i : Instruction) → numbersOf i .first < 256 → numbersOf i .second < 256
+    → encodedNumber (numbersOf i .kind) (numbersOf i .first) (numbersOf i .second) ≡ encodeOf i
