@@ -7,7 +7,7 @@ use mathlib.Core.Path.{_≡_, sym, _∙_}
 use native.Mathlib.Omega.{arith}
 use lib.Dec.{ltb, eqb}
 use lib.ListN.{length, getD, set}
-use borrow.Author.Tests.{lt-ltb, le-ltb, eqb-true, eq-eqb, ne-eqb}
+use borrow.Author.Tests.{lt-ltb, le-ltb, ltb-false, eqb-true, eq-eqb, ne-eqb}
 use Rattle.instructions.specs.Bounded.{Bounded}
 use Rattle.instructions.specs.Decoding.{decodeOf}
 use Rattle.instructions.specs.Reg.{gprNumber}
@@ -117,6 +117,19 @@ length-none n e = rw (eq-eqb n 0 e)
 pub length-some : (n : ℕ) → (n ≡ 0 → ⊥) → ltb 65536 n ≡ refusedLength n
 unfolding refusedLength
 length-some n e = rw (ne-eqb n 0 e)
+
+-- what host test 1 doesn't refuse has at most 65,536 words, and it refuses none of 1 to 65,536
+pub length-within : (n : ℕ) {b : Bool} → b ≡ refusedLength n → b ≡ false → n ≤ 65536
+unfolding refusedLength
+length-within n p q =
+    if-elim (λ (x : Bool). x ≡ false → n ≤ 65536) (eqb n 0)
+    (λ _ e. absurd (let z : _≡_ {A = ℕ} 0 1 = cc in omega arith))
+    (λ _ e. ltb-false 65536 n e)
+    (sym p ∙ q)
+
+pub length-accepted : (n : ℕ) → 1 ≤ n → n ≤ 65536 → refusedLength n ≡ false
+unfolding refusedLength
+length-accepted n l m = rw (ne-eqb n 0 (λ z. omega arith), le-ltb 65536 n m)
 
 module _ (mem ms : List ℕ) {b : Bool} (asked : b ≡ refusedLength (length mem)) where
   pub refused-length : b ≡ true → 1 ≡ refusalOf (lent mem ms)

@@ -1,3 +1,2 @@
 pub mod Arms
-pub mod Examples
 pub mod Laws

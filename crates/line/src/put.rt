@@ -1,6 +1,5 @@
 // Text put into the line's buffer. Each function answers the place past what it put.
 ghost use Prim.Native.Nat.{_+_, _*_, _≤_, _<_};
-ghost use mathlib.Core.Path.{_≡_};
 ghost use mathlib.Core.List.{[], _∷_};
 ghost use lib.ListN.{length};
 ghost use Rattle.instructions.specs.Bounded.{Bounded};

@@ -10,7 +10,6 @@ use sheet::Loaded;
 use sheet::Written;
 use sheet::load_sheet;
 use sheet::records;
-ghost use mathlib.Core.Path.{_≡_};
 ghost use mathlib.Core.List.{[], _∷_, _++_};
 ghost use Prim.Native.Nat.{_≤_};
 ghost use Rattle.emulator.specs.Outcome.{endOf};

@@ -1,12 +1,12 @@
 -- Runs of stores, `sets`: what is left of a run is the whole run, so that a loop which stores keeps `sets now i rest ≡ sets first 0 whole`.
 use Prim.Native.Nat.{ℕ, zero, suc, _+_, _-_, _<_, _≤_}
-use mathlib.Core.List.{List, [], _∷_, _++_, append-nil}
+use mathlib.Core.List.{List, [], _∷_, _++_}
 use mathlib.Core.Path.{_≡_, _∙_}
 use native.Mathlib.Numerals.{add-one, add-two, add-three, add-four}
 use native.Mathlib.Nat.{add-zero, zero-add, suc-add, add-suc}
 use native.Mathlib.Omega.{arith}
 use lib.ListN.{length, getD, set, drop, replicate, drop-of-length-le}
-use lib.Seq.{sets, sets-eq, drop-cons, drop-length}
+use lib.Seq.{sets, sets-eq, drop-cons}
 
 -- the next store of a copy of s
 pub sets-next : (s d d₀ : List ℕ) (i : ℕ) → i < length s → sets d i (drop i s) ≡ d₀ → sets (set d i (getD s i 0)) (i + 1) (drop (i + 1) s) ≡ d₀
@@ -29,10 +29,6 @@ pub drop-replicate : (n k v : ℕ) → drop k (replicate n v) ≡ replicate (n -
 drop-replicate n zero v = let e : n - 0 ≡ n = omega arith in rw e
 drop-replicate zero (suc k) v = let e : 0 - suc k ≡ 0 = omega arith in rw e
 drop-replicate (suc n) (suc k) v = let e : suc n - suc k ≡ n - k = omega arith in rw e (drop-replicate n k v)
-
--- a list that was filled to its end
-pub filled : (l l′ : List ℕ) (i : ℕ) → i ≡ length l → l′ ≡ replicate i 0 ++ drop i l → l′ ≡ replicate (length l) 0
-filled l l′ i e p = p ∙ rw (e, drop-length l, append-nil)
 
 -- the next four elements
 pub four : (l : List ℕ) (i : ℕ) → i + 4 ≤ length l

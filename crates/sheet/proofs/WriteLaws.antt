@@ -8,8 +8,8 @@ use native.Mathlib.Nat.{zero-add}
 use native.Mathlib.Omega.{arith}
 use lib.ListN.{length, getD, set, drop, length-set, length-append, drop-of-length-le}
 use lib.Seq.{sets, drop-cons, length-sets}
-use lib.Dec.{eqb, ltb}
-use borrow.Author.Tests.{lt-ltb, le-ltb, eq-eqb, ne-eqb, ltb-false}
+use lib.Dec.{eqb}
+use borrow.Author.Tests.{lt-ltb, le-ltb, eq-eqb, ne-eqb}
 use Rattle.instructions.specs.Bounded.{Bounded}
 use Rattle.instructions.specs.Choice.{if_then_else_}
 use Rattle.emulator.specs.declared.core.Core.{Core}
@@ -236,12 +236,3 @@ module _ (c : Core) (mem s : List ℕ) {a : Bool} (asked : a ≡ refusedLength (
         let size : length (sheetOf c mem) ≡ 12 + n + 1 = length-sheet c mem ∙ ap (λ (k : ℕ). 12 + k + 1) (sym counted) in
         let fits : length (sheetOf c mem) ≤ length s = omega arith in
         rw (← asked, e, le-ltb (length s) (length (sheetOf c mem)) fits, ← sets-front (sheetOf c mem) s fits, size, q, p, f, counted, sheet-put c mem s)
-
--- host test 1 leaves at most 65,536 words
-pub not-refused : (n : ℕ) {a : Bool} → a ≡ refusedLength n → a ≡ false → n ≤ 65536
-unfolding refusedLength
-not-refused n p q = go (eqb n 0) (sym q ∙ p)
-  where
-    go : (t : Bool) → false ≡ (if t then true else ltb 65536 n) → n ≤ 65536
-    go true e = let z : _≡_ {A = ℕ} 0 1 = cc in absurd (omega arith)
-    go false e = ltb-false 65536 n (sym e)

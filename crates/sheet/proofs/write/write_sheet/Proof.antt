@@ -2,7 +2,8 @@
 use native.Mathlib.Omega.{arith}
 use borrow.Author.Needs.{needs}
 use lib.ListN.{length-set}
-use Rattle.sheet.proofs.WriteLaws.{write-host, write-short, write-done, not-refused}
+use Rattle.emulator.proofs.Laws.{length-within}
+use Rattle.sheet.proofs.WriteLaws.{write-host, write-short, write-done}
 use Rattle.sheet.proofs.write.write_sheet.Statement.{statement}
 use Rattle.sheet.proofs.write.write_sheet.Tie as tie
 
@@ -12,12 +13,12 @@ write-sheet-spec =
     (tie.spec
     (λ c κs. search needs)
     (λ c. search write-host)
-    (λ c κs. search not-refused)
+    (λ c κs. search length-within)
     (λ c κs. search needs)
     (λ c. omega arith)
     (λ c. search write-short)
     (λ c κs. search needs)
-    (λ c κs. (search not-refused, omega arith))
+    (λ c κs. (search length-within, omega arith))
     (λ c. omega arith)
     (λ c. search needs)
     (λ c. search needs)
