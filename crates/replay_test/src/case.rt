@@ -18,31 +18,25 @@ struct Ended {
     value: u16,
 }
 
-// Whether this machine answers as the Rust did. A step is made on a core by value and on one that is lent.
+// Whether this machine answers as the Rust did; a step in both ways.
 pub fn replay(case: &[u8; 222]) -> bool {
     if word(case, 0) == 0 {
-        replay_step(case) && replay_lent(case)
+        replay_step(case, false) && replay_step(case, true)
     } else {
         replay_run(case)
     }
 }
 
-fn replay_step(case: &[u8; 222]) -> bool {
+// A step of a core by value, or of one that is lent.
+fn replay_step(case: &[u8; 222], lent: bool) -> bool {
     let mut memory = memory_at(case, 15);
     let mut marks = [mark(case); 32];
-    let s = core_at(case, 3).step(&mut memory, &mut marks);
-    let after = s.core;
-    let answer = s.answer;
-    same_answer(step_ended(answer), 0, case)
-        && same_core(after, case)
-        && same_memory(&memory, case)
-        && same_marks(&marks, case)
-}
-
-fn replay_lent(case: &[u8; 222]) -> bool {
-    let mut memory = memory_at(case, 15);
-    let mut marks = [mark(case); 32];
-    let s = step_by_lent(core_at(case, 3), &mut memory, &mut marks);
+    let core = core_at(case, 3);
+    let s = if lent {
+        step_by_lent(core, &mut memory, &mut marks)
+    } else {
+        core.step(&mut memory, &mut marks)
+    };
     let after = s.core;
     let answer = s.answer;
     same_answer(step_ended(answer), 0, case)
