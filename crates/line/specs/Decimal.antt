@@ -8,7 +8,8 @@ use Rattle.instructions.specs.Choice.{if_then_else_}
 abbrev pub digit : ℕ → ℕ
 digit d = 48 + d
 
--- the digits of n, of which there are at most `more` past the first
+-- the digits of n, of which there are at most `more` past the first. The branch stands in a `let` so that it is computed only where it is
+-- taken.
 unfoldable pub digitsOf : ℕ → ℕ → List ℕ
 digitsOf zero n = digit n ∷ []
 digitsOf (suc more) n =

@@ -21,11 +21,7 @@ put-sheet-spec =
     Inv-loop
     μ-loop
     (λ c. (omega arith, refl, refl))
-    (λ c. search needs)
-    (λ c. search needs)
-    (λ c. omega arith)
-    (λ c. omega arith)
-    (λ c. omega arith)
+    (λ c. search needs) (λ c. search needs) (λ c. omega arith) (λ c. omega arith) (λ c. omega arith)
     (λ c. omega arith)
     (λ c. simp length-set (omega arith))
     (λ c. omega arith)

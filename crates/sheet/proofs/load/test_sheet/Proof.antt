@@ -19,13 +19,8 @@ test-sheet-spec =
     Inv-loop
     μ-loop
     (λ c. search test-start)
-    (λ c. search needs)
-    (λ c. search needs)
-    (λ c κs. search needs)
-    (λ c. search needs)
-    (λ c. search needs)
-    (λ c. search needs)
-    (λ c. search needs)
+    (λ c. search needs) (λ c. search needs) (λ c κs. search needs) (λ c. search needs) (λ c. search needs)
+    (λ c. search needs) (λ c. search needs)
     (λ c. search test-place)
     (λ c. search needs)
     (λ c. search test-past)

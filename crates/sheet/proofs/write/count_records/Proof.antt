@@ -20,11 +20,7 @@ count-records-spec =
     Inv-loop
     μ-loop
     (λ c. search counting-start)
-    (λ c. search needs)
-    (λ c. search needs)
-    (λ c κs. search needs)
-    (λ c. omega arith)
-    (λ c. omega arith)
+    (λ c. search needs) (λ c. search needs) (λ c κs. search needs) (λ c. omega arith) (λ c. omega arith)
     (λ c. omega arith)
     (λ c. search counting-next)
     (λ c. search counting-done))

@@ -20,11 +20,7 @@ count-words-spec =
     Inv-loop
     μ-loop
     (λ c. search summing-start)
-    (λ c. search needs)
-    (λ c. search needs)
-    (λ c κs. search needs)
-    (λ c. omega arith)
-    (λ c. omega arith)
+    (λ c. search needs) (λ c. search needs) (λ c κs. search needs) (λ c. omega arith) (λ c. omega arith)
     (λ c. omega arith)
     (λ c. search summing-next)
     (λ c. search summing-done))

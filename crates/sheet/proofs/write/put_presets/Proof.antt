@@ -19,13 +19,8 @@ put-presets-spec =
     Inv-loop
     μ-loop
     (λ c. search presetting-start)
-    (λ c κs. search needs)
-    (λ c κs. search needs)
-    (λ c. omega arith)
-    (λ c. omega arith)
-    (λ c. omega arith)
-    (λ c. omega arith)
-    (λ c. omega arith)
+    (λ c κs. search needs) (λ c κs. search needs) (λ c. omega arith) (λ c. omega arith) (λ c. omega arith)
+    (λ c. omega arith) (λ c. omega arith)
     (λ c. search presetting-next)
     (λ c. search needs)
     (λ c. search presetting-done))
