@@ -3,11 +3,10 @@ use Prim.Native.Nat.{ℕ, zero, suc, _+_}
 use mathlib.Core.Path.{refl, _∙_}
 use lib.Dec.{ltb, eqb}
 use lib.ListN.{length}
-use Rattle.emulator.specs.Claims.{Kept, Keeping}
 use Rattle.emulator.specs.Core.{isHalted}
-use Rattle.emulator.specs.Memory.{Memory, Accessed, readOf, fetchOf, writeOf}
+use Rattle.emulator.specs.Memory.{Memory, Accessed, readOf, fetchOf, writeOf, Kept}
 use Rattle.emulator.specs.Outcome.{stepped}
-use Rattle.emulator.specs.Machine.{Access, none, load, store, stop, Plan, planOf, Turn, turn, loaded, onWord, afterRead, onWrite, makeOf, made, advanced, cycleOf, refusalOf, stepOf, Ran, isStepped, nextOf, runFrom}
+use Rattle.emulator.specs.Machine.{Access, none, load, store, stop, Plan, Turn, turn, loaded, onWord, afterRead, onWrite, makeOf, made, advanced, cycleOf, refusalOf, stepOf, Ran, isStepped, nextOf, runFrom}
 use Rattle.emulator.specs.declared.core.Core.{Core}
 use Rattle.emulator.specs.declared.memory.Read.{Read}
 use Rattle.emulator.specs.declared.memory.Write.{Write}
@@ -83,6 +82,3 @@ module _ (plan : Core → ℕ → Plan) where
       if-elim (λ (r : Ran). Kept m (r .memory)) (isHalted c)
       (λ _. kept-same m)
       (λ _. kept-next (cycle-keeps c m) (next-keeps (runFrom plan k (n + 1)) n (run-keeps k (n + 1)) (cycleOf plan c m)))
-
-pub keeping : Keeping
-keeping = record { step-keeps = step-keeps planOf; run-keeps = run-keeps planOf }

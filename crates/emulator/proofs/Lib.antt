@@ -4,5 +4,3 @@ pub mod Marks
 pub mod Laws
 pub mod Keeps
 pub mod Runs
-pub mod Agreement
-pub mod Rows

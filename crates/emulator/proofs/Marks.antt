@@ -8,8 +8,7 @@ use lib.ListN.{length, getD, set, length-set}
 use lib.Seq.{getD-set-same, getD-set-other, set-out}
 use lib.Dec.{ltb, eqb}
 use borrow.Author.Tests.{eq-eqb, ne-eqb, eqb-true, eqb-false, ltb-true, ltb-false}
-use Rattle.emulator.specs.Claims.{Below, Kept}
-use Rattle.emulator.specs.Memory.{lent, wasRead, wasWritten, readMark, writeMark, markRead, markWrite}
+use Rattle.emulator.specs.Memory.{lent, wasRead, wasWritten, readMark, writeMark, markRead, markWrite, Below, Kept}
 use Rattle.emulator.proofs.Cases.{by-test, if-elim}
 
 -- the definitions, by their tests

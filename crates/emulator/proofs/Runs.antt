@@ -1,5 +1,5 @@
--- Laws of the run and of the step. A run is its steps, and a step is a run of one: then one law for each way through the loop of turns
--- and through `step` and `run`, and the loop's invariant.
+-- Laws of the run and of the step: one for each way through the loop of turns and through `step` and `run`, the loop's invariant, and that
+-- a step is a run of one.
 use Prim.Native.Nat.{ℕ, zero, suc, _+_, _-_, _<_, _≤_}
 use mathlib.Core.Bool.{Bool, true, false}
 use mathlib.Core.List.{List}
@@ -7,7 +7,6 @@ use mathlib.Core.Path.{_≡_, refl, sym, ap, _∙_}
 use native.Mathlib.Omega.{arith}
 use lib.ListN.{length, replicate, length-replicate}
 use borrow.Author.Tests.{eq-eqb, ne-eqb}
-use Rattle.emulator.specs.Claims.{Kept, stepsFrom, RunIsSteps}
 use Rattle.emulator.specs.Core.{isHalted}
 use Rattle.emulator.specs.Memory.{Memory, lent, readOf, fetchOf, writeOf}
 use Rattle.emulator.specs.Outcome.{Outcome, stepped, halted, limit, fault, refused, stopOf, progressOf, answerOf, endOf, uncounted, answeredOf}
@@ -22,7 +21,7 @@ use Rattle.emulator.specs.declared.stop.Stop.{Stop}
 use Rattle.emulator.specs.declared.stop.Stop.the-variants as stops
 use Rattle.emulator.proofs.Cases.{by-test, if-elim}
 use Rattle.emulator.proofs.Laws.{accepted}
-use Rattle.emulator.proofs.Keeps.{cycle-keeps, step-keeps}
+use Rattle.emulator.proofs.Keeps.{cycle-keeps}
 
 -- a property of every stop's outcome, of every fault's
 stop-elim : (P : Outcome → Type 0) → ((n v : ℕ) → P (fault n v)) → (s : Stop) → P (stopOf s)
@@ -37,30 +36,6 @@ pub accepted-run : (plan : Core → ℕ → Plan) (c : Core) (m : Memory) (most 
     → runOf plan c m most ≡ runFrom plan most 0 c (unmarked m)
 unfolding runOf
 accepted-run plan c m most z = rw (eq-eqb (refusalOf m) 0 z)
-
--- a run of accepted memory that has a step left is determined by its first step: its end where it is halted or a fault, else the run
--- from what the step leaves
-run-by-step : (plan : Core → ℕ → Plan) (k n : ℕ) (c : Core) (m : Memory) → refusalOf m ≡ 0
-    → runFrom plan (suc k) n c m ≡ nextOf (runFrom plan k (n + 1)) n (stepOf plan c m)
-unfolding runFrom stepOf
-run-by-step plan k n c m ok = by-test (isHalted c) (λ h. rw (eq-eqb (refusalOf m) 0 ok, h)) (λ h. rw (eq-eqb (refusalOf m) 0 ok, h))
-
--- the host tests look at the lengths alone
-refusal-kept : {m m′ : Memory} → Kept m m′ → refusalOf m′ ≡ refusalOf m
-unfolding refusalOf
-refusal-kept k = rw (k .words-length, k .marks-length)
-
-steps-run : (k n : ℕ) (c : Core) (m : Memory) → refusalOf m ≡ 0 → runFrom planOf k n c m ≡ stepsFrom k n c m
-unfolding runFrom stepsFrom
-steps-run zero n c m ok = refl
-steps-run (suc k) n c m ok =
-    let s = stepOf planOf c m in
-    run-by-step planOf k n c m ok
-    ∙ rw (steps-run k (n + 1) (s .core) (s .memory) (refusal-kept (step-keeps planOf c m) ∙ ok))
-
-pub run-is-steps : RunIsSteps
-unfolding refusalOf
-run-is-steps c m most ok = accepted-run planOf c m most ok ∙ steps-run most 0 c (unmarked m) (rw (length-replicate {A = ℕ} (length (m .marks)) 0) ok)
 
 -- one turn of the run, by its tests
 module _ (plan : Core → ℕ → Plan) (c : Core) (m : Memory) (n : ℕ) where

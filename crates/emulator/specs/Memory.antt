@@ -2,6 +2,7 @@
 use Prim.Native.Nat.{ℕ, _+_, _/_, _%_}
 use mathlib.Core.Bool.{Bool, true}
 use mathlib.Core.List.{List}
+use mathlib.Core.Path.{_≡_}
 use lib.Dec.{ltb, eqb}
 use lib.ListN.{length, getD, set}
 use Rattle.instructions.specs.Choice.{if_then_else_}
@@ -69,3 +70,15 @@ writeOf m a v =
 -- a fetch is a read
 abbrev pub fetchOf : Memory → ℕ → Accessed Read
 fetchOf = readOf
+
+-- a bit that is set in the first marks is set in the second
+abbrev pub Below : (ℕ → ℕ) → List ℕ → List ℕ → Type 0
+Below bit p q = (a : ℕ) → bit (getD p a 0) ≡ 1 → bit (getD q a 0) ≡ 1
+
+-- what every access keeps: marks only grow, their other bits keep their value, and the lengths never change
+pub record Kept (m m′ : Memory) : Type 0 where
+  pub read : Below wasRead (m .marks) (m′ .marks)
+  pub written : Below wasWritten (m .marks) (m′ .marks)
+  pub others : (a : ℕ) → getD (m′ .marks) a 0 / 4 ≡ getD (m .marks) a 0 / 4
+  pub words-length : length (m′ .words) ≡ length (m .words)
+  pub marks-length : length (m′ .marks) ≡ length (m .marks)

@@ -1,11 +1,11 @@
 -- Two runs agree (document 01, The run): one claim over every two accepted runs of one core and one limit. It rests on the definitions
--- of Machine.antt and mentions no instruction.
+-- of the machine and mentions no instruction.
 use Prim.Native.Nat.{ℕ}
 use mathlib.Core.Path.{_≡_}
 use lib.ListN.{length, getD}
 use Rattle.emulator.specs.Memory.{Memory, wasRead, wasWritten}
 use Rattle.emulator.specs.Machine.{Plan, planOf, Ran, refusalOf, runOf}
 use Rattle.emulator.specs.declared.core.Core.{Core}
 
 -- the word, and the mark, at an address
 abbrev pub wordAt : Memory → ℕ → ℕ

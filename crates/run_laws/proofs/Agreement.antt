@@ -9,20 +9,19 @@ use lib.Dec.{ltb}
 use lib.ListN.{length, getD, set, replicate, length-set, length-replicate}
 use lib.Seq.{getD-set-same, getD-set-other}
 use borrow.Author.Tests.{ltb-true}
-use Rattle.emulator.specs.Agreement.{wordAt, markAt, Agree, AgreementOf, Agreement}
-use Rattle.emulator.specs.Claims.{Below}
+use Rattle.run_laws.specs.Agreement.{wordAt, markAt, Agree, AgreementOf, Agreement}
 use Rattle.emulator.specs.Core.{isHalted}
-use Rattle.emulator.specs.Memory.{Memory, lent, wasRead, wasWritten, readMark, writeMark, markRead, markWrite, Accessed, readOf, fetchOf, writeOf}
+use Rattle.emulator.specs.Memory.{Memory, lent, wasRead, wasWritten, readMark, writeMark, markRead, markWrite, Accessed, readOf, fetchOf, writeOf, Below}
 use Rattle.emulator.specs.Outcome.{stepped}
 use Rattle.emulator.specs.Machine.{Access, none, load, store, stop, Plan, planOf, Turn, turn, onWord, afterRead, onWrite, afterWrite, loaded, makeOf, made, advanced, cycleOf, unmarked, Ran, ran, isStepped, nextOf, runFrom}
 use Rattle.emulator.specs.declared.core.Core.{Core}
 use Rattle.emulator.specs.declared.memory.Read.{Read}
 use Rattle.emulator.specs.declared.memory.Write.{Write}
 use Rattle.emulator.proofs.Cases.{if-both}
 use Rattle.emulator.proofs.Marks.{written-cases, same-or-not, read-sets, write-sets, written-read}
 use Rattle.emulator.proofs.Laws.{accepted-marked}
 use Rattle.emulator.proofs.Runs.{accepted-run}
 use Rattle.emulator.proofs.Keeps.{after-read-keeps, make-keeps, next-keeps, run-keeps}
 
 -- The two runs: the words that they start with are M and N, and the first one's final marks F.
 
