@@ -12,26 +12,10 @@ pub fn small() {
 
 fn first_bytes(n: usize) {
     let bytes = BYTES;
-    let mut out = [0xFFFFFFFFu32; 8192];
     show::number(n as u64);
     if n <= 12 {
-        show::written(sheet::records(&bytes[0..n], &mut out));
+        read(&bytes[0..n], 0, 4);
     }
-    show_out(&out, 0, 4);
-}
-
-fn show_out(out: &[u32; 8192], from: usize, to: usize) {
-    show_part(out, from, to);
-}
-
-// Part of the buffer.
-fn show_part(list: &[u32], from: usize, to: usize) {
-    if from <= to {
-        if to <= list.len() {
-            show::records(&list[from..to]);
-        }
-    }
-    show::line();
 }
 
 // As many bytes as a program takes, and more.
@@ -43,10 +27,28 @@ pub fn large() {
 
 fn many_bytes(n: usize) {
     let bytes = [0xFEu8; 32772];
-    let mut out = [0u32; 8192];
     show::number(n as u64);
     if n <= 32772 {
-        show::written(sheet::records(&bytes[0..n], &mut out));
+        read(&bytes[0..n], 8190, 8192);
     }
-    show_out(&out, 8190, 8192);
+}
+
+// Reads the records, and shows part of the buffer.
+fn read(bytes: &[u8], from: usize, to: usize) {
+    let mut out = [0xFFFFFFFFu32; 8192];
+    show::written(sheet::records(bytes, &mut out));
+    show_out(&out, from, to);
+}
+
+fn show_out(out: &[u32; 8192], from: usize, to: usize) {
+    show_part(out, from, to);
+}
+
+fn show_part(list: &[u32], from: usize, to: usize) {
+    if from <= to {
+        if to <= list.len() {
+            show::records(&list[from..to]);
+        }
+    }
+    show::line();
 }
