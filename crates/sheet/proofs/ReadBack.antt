@@ -22,41 +22,31 @@ use Rattle.sheet.proofs.FieldLaws as fields
 use Rattle.sheet.proofs.Stores.{four}
 use Rattle.sheet.proofs.WriteLaws.{at-zero, at-first, at-within, counts-none, counts-one}
 
--- a kind is no other kind
-other : {x k : ℕ} → x ≡ k → (j : ℕ) → j < k → x ≡ j → ⊥
-other e j l f = omega arith
-
 -- each record has the kind and the fields that it was made of
 is-place : (a : ℕ) → a < 2 ^ 16 → recordOf (placeRecord a) ≡ Place a
 is-place a l =
-    let k : kind (placeRecord a) ≡ 1 = omega arith in
-    let q : placeRecord a / 2 ^ 16 ≡ 2 ^ 12 = omega arith in
     let f : low (placeRecord a) ≡ a = omega arith in
-    sym (fields.place (placeRecord a) k (rw q)) ∙ ap Place f
+    sym (fields.place (placeRecord a) (omega arith)) ∙ ap Place f
 
 is-word : (v : ℕ) → v < 2 ^ 16 → recordOf (wordRecord v) ≡ Word v
 is-word v l =
-    let k : kind (wordRecord v) ≡ 2 = omega arith in
-    let q : wordRecord v / 2 ^ 16 ≡ 2 * 2 ^ 12 = omega arith in
     let f : low (wordRecord v) ≡ v = omega arith in
-    sym (fields.word (wordRecord v) (other k 1 (omega arith)) k (rw q)) ∙ ap Word f
+    sym (fields.word (wordRecord v) (omega arith)) ∙ ap Word f
 
 is-preset : (r v : ℕ) → r < 12 → v < 2 ^ 16 → recordOf (presetRecord r v) ≡ Preset r v
 is-preset r v b l =
-    let k : kind (presetRecord r v) ≡ 3 = omega arith in
     let q : presetRecord r v / 2 ^ 20 ≡ 3 * 2 ^ 8 = omega arith in
     let h : presetRecord r v / 2 ^ 16 ≡ 3 * 2 ^ 12 + r = omega arith in
     let m : (3 * 2 ^ 12 + r) % 2 ^ 4 ≡ r = omega arith in
     let g : register (presetRecord r v) ≡ r = rw (h, m) in
     let f : low (presetRecord r v) ≡ v = omega arith in
     let t : register (presetRecord r v) ≤ 11 = rw g (omega arith) in
-    sym (fields.preset (presetRecord r v) (other k 1 (omega arith)) (other k 2 (omega arith)) k (rw q) t) ∙ rw (f, g)
+    sym (fields.preset (presetRecord r v) (omega arith) (rw q) t) ∙ rw (f, g)
 
 is-end : (n : ℕ) → n < 2 ^ 28 → recordOf (endRecord n) ≡ End n
 is-end n l =
-    let k : kind (endRecord n) ≡ 15 = omega arith in
     let f : count (endRecord n) ≡ n = omega arith in
-    sym (fields.end (endRecord n) (other k 1 (omega arith)) (other k 2 (omega arith)) (other k 3 (omega arith)) k) ∙ ap End f
+    sym (fields.end (endRecord n) (omega arith)) ∙ ap End f
 
 -- so it reads as one
 module _ (ws : List ℕ) (a n : ℕ) (c : Core) (mem : List ℕ) where

@@ -16,40 +16,34 @@ pub enum Record {
     Refused(u8),
 }
 
-// The record that a word is, by the tests of its own bits.
+// The record that a word is, by the tests of its own bits. Kind and zero bits of a word record, of which a sheet has most, are one test, the first.
 pub fn record_of(w: u32) -> Record
     ensures { λ r. ⌜ r ≡ recordOf w ⌝ }
 {
-    let kind = w / 0x10000000;
+    let upper = w / 0x10000;
     let low = (w % 0x10000) as u16;
-    let above16 = w / 0x10000 % 0x1000;
-    let above20 = w / 0x100000 % 0x100;
-    if kind == 1 {
-        if above16 != 0 {
-            return Record::Refused(21);
-        }
-        return Record::Place(low);
-    }
-    if kind == 2 {
-        if above16 != 0 {
-            return Record::Refused(21);
-        }
+    if upper == 0x2000 {
         return Record::Word(low);
     }
-    if kind == 3 {
-        if above20 != 0 {
-            return Record::Refused(21);
-        }
-        let register = (w / 0x10000 % 0x10) as u8;
-        if 11 < register {
-            return Record::Refused(22);
-        }
-        return Record::Preset(register, low);
+    if upper == 0x1000 {
+        return Record::Place(low);
     }
-    if kind == 15 {
-        return Record::End(w % 0x10000000);
+    match w / 0x10000000 {
+        1 => Record::Refused(21),
+        2 => Record::Refused(21),
+        3 => {
+            if w / 0x100000 % 0x100 != 0 {
+                return Record::Refused(21);
+            }
+            let register = (upper % 0x10) as u8;
+            if 11 < register {
+                return Record::Refused(22);
+            }
+            Record::Preset(register, low)
+        }
+        15 => Record::End(w % 0x10000000),
+        _ => Record::Refused(20),
     }
-    Record::Refused(20)
 }
 
 // The register of that number: 0 to 7 general, 8 ip, 9 rp, 10 sp, 11 ef.

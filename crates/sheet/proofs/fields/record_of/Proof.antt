@@ -1,6 +1,6 @@
 -- `sheet::fields::record_of` meets its contract: a law for each answer.
 use borrow.Author.Needs.{needs}
-use Rattle.sheet.proofs.FieldLaws.{place-bits, place, word-bits, word, preset-bits, preset-register, preset, end, unknown}
+use Rattle.sheet.proofs.FieldLaws.{word, place, preset-bits, preset-register, place-bits, word-bits, preset, end, unknown}
 use Rattle.sheet.proofs.fields.record_of.Statement.{statement}
 use Rattle.sheet.proofs.fields.record_of.Tie as tie
 
@@ -9,13 +9,13 @@ record-of-spec =
     tie.close
     (tie.spec
     (λ c. search needs)
-    (λ c. search place-bits)
-    (λ c. search place)
-    (λ c. search word-bits)
     (λ c. search word)
+    (λ c. search place)
     (λ c. search preset-bits)
     (λ c. search needs)
     (λ c. search preset-register)
+    (λ c. search place-bits)
+    (λ c. search word-bits)
     (λ c. search preset)
     (λ c. search end)
     (λ c. search unknown))
