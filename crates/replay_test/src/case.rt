@@ -11,38 +11,23 @@ ghost use Prim.Native.Nat.{_≤_, _<_};
 // Bytes of a case.
 pub const CASE: usize = 222;
 
-// An answer as the case has it: its class, and the number and value of a fault.
-struct Ended {
-    class: u16,
-    number: u16,
-    value: u16,
-}
-
-// Whether this machine answers as the Rust did; a step in both ways.
+// Whether this machine answers as the Rust did.
 pub fn replay(case: &[u8; 222]) -> bool {
     if word(case, 0) == 0 {
-        replay_step(case, false) && replay_step(case, true)
+        replay_step(case)
     } else {
         replay_run(case)
     }
 }
 
-// A step of a core by value, or of one that is lent.
-fn replay_step(case: &[u8; 222], lent: bool) -> bool {
+// A step of a core that is lent, which makes the step of a core by value.
+fn replay_step(case: &[u8; 222]) -> bool {
     let mut memory = memory_at(case, 15);
     let mut marks = [mark(case); 32];
-    let core = core_at(case, 3);
-    let s = if lent {
-        step_by_lent(core, &mut memory, &mut marks)
-    } else {
-        core.step(&mut memory, &mut marks)
-    };
+    let s = step_by_lent(core_at(case, 3), &mut memory, &mut marks);
     let after = s.core;
     let answer = s.answer;
-    same_answer(step_ended(answer), 0, case)
-        && same_core(after, case)
-        && same_memory(&memory, case)
-        && same_marks(&marks, case)
+    same_answer(answer, case) && same_core(after, case) && same_memory(&memory, &marks, case)
 }
 
 fn replay_run(case: &[u8; 222]) -> bool {
@@ -51,10 +36,10 @@ fn replay_run(case: &[u8; 222]) -> bool {
     let r = core_at(case, 3).run(&mut memory, &mut marks, word(case, 1) as u32);
     let after = r.core;
     let end = r.end;
-    same_answer(run_ended(end), r.steps, case)
+    r.steps == word(case, 50) as u32
+        && same_end(end, case)
         && same_core(after, case)
-        && same_memory(&memory, case)
-        && same_marks(&marks, case)
+        && same_memory(&memory, &marks, case)
 }
 
 // Word `i` of a case, low byte first.
@@ -103,46 +88,32 @@ fn memory_at(case: &[u8; 222], at: usize) -> [u16; 32]
     memory
 }
 
-fn fault(stop: Stop) -> Ended {
-    let f = stop.fault();
-    Ended {
-        class: 2,
-        number: f.number as u16,
-        value: f.value,
-    }
-}
-
-fn plain(class: u16) -> Ended {
-    Ended {
-        class,
-        number: 0,
-        value: 0,
-    }
-}
-
-fn step_ended(answer: Answer) -> Ended {
+fn same_answer(answer: Answer, case: &[u8; 222]) -> bool {
     match answer {
-        Answer::Stepped => plain(0),
-        Answer::Halted => plain(1),
-        Answer::Fault(stop) => fault(stop),
-        Answer::Refused(_) => plain(3),
+        Answer::Stepped => same_outcome(0, 0, 0, case),
+        Answer::Halted => same_outcome(1, 0, 0, case),
+        Answer::Fault(stop) => same_fault(stop, case),
+        Answer::Refused(_) => false,
     }
 }
 
-fn run_ended(end: End) -> Ended {
+fn same_end(end: End, case: &[u8; 222]) -> bool {
     match end {
-        End::Halted => plain(0),
-        End::Limit => plain(1),
-        End::Fault(stop) => fault(stop),
-        End::Refused(_) => plain(3),
+        End::Halted => same_outcome(0, 0, 0, case),
+        End::Limit => same_outcome(1, 0, 0, case),
+        End::Fault(stop) => same_fault(stop, case),
+        End::Refused(_) => false,
     }
 }
 
-fn same_answer(ended: Ended, steps: u32, case: &[u8; 222]) -> bool {
-    ended.class == word(case, 47)
-        && ended.number == word(case, 48)
-        && ended.value == word(case, 49)
-        && steps == word(case, 50) as u32
+fn same_fault(stop: Stop, case: &[u8; 222]) -> bool {
+    let f = stop.fault();
+    same_outcome(2, f.number as u16, f.value, case)
+}
+
+// A class of outcomes, and the number and value of a fault.
+fn same_outcome(class: u16, number: u16, value: u16, case: &[u8; 222]) -> bool {
+    class == word(case, 47) && number == word(case, 48) && value == word(case, 49)
 }
 
 fn same_core(core: Core, case: &[u8; 222]) -> bool {
@@ -164,26 +135,24 @@ fn same_flags(core: Core, ef: u16) -> bool {
     let halted = ef % 2 == 1;
     let cond = ef / 2 % 2 == 1;
     let changed = core.set_cond(!cond);
-    core.is_halted() == halted
-        && core.is_cond_set() == cond
-        && changed.is_cond_set() != cond
-        && changed.set_cond(cond).read_spr(SPR::EF) == ef
+    if core.is_halted() != halted {
+        return false;
+    }
+    if core.is_cond_set() != cond {
+        return false;
+    }
+    if changed.is_cond_set() == cond {
+        return false;
+    }
+    changed.set_cond(cond).read_spr(SPR::EF) == ef
 }
 
-fn same_memory(memory: &[u16; 32], case: &[u8; 222]) -> bool {
+fn same_memory(memory: &[u16; 32], marks: &[u8; 32], case: &[u8; 222]) -> bool {
     let mut i = 0;
     while i < 32 {
         if memory[i] != word(case, 63 + i) {
             return false;
         }
-        i += 1;
-    }
-    true
-}
-
-fn same_marks(marks: &[u8; 32], case: &[u8; 222]) -> bool {
-    let mut i = 0;
-    while i < 32 {
         if marks[i] != case[190 + i] {
             return false;
         }

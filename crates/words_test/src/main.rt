@@ -11,36 +11,27 @@ use instructions::SPR;
 use libc::STDOUT_FILENO;
 ghost use Prim.Native.Nat.{_<_};
 
-// The kinds' names, eight bytes each.
-const NAMES: [u8; 344] =
-    *b"nop     hlt     mov     dmov    putl    puth    read    write   spread  spwrite dread   dwrite  push    pop     movso   movsi   spadd   spinc   spdec   not     and     booland or      xor     shl     shr     bitset  neg     inc     dec     add     sub     mul     inv     eqz     eq      gt      gteq    jmpoff  cjmpoff cjmp    call    ret     ";
+// The rows of the table, twelve bytes each: the kinds, then what follows.
+const NAMES: [u8; 576] =
+    *b"nop         hlt         mov         dmov        putl        puth        read        write       spread      spwrite     dread       dwrite      push        pop         movso       movsi       spadd       spinc       spdec       not         and         booland     or          xor         shl         shr         bitset      neg         inc         dec         add         sub         mul         inv         eqz         eq          gt          gteq        jmpoff      cjmpoff     cjmp        call        ret         undecodable wrong       general     special     decimal     ";
 
-struct Tally {
-    kinds: [u32; 43],
-    undecodable: u32,
-    general: u32,
-    special: u32,
-    decimal: u32,
-    // Words that do not come back: an instruction or a register whose word is another, or a refusal with another word.
-    wrong: u32,
-}
+const UNDECODABLE: usize = 43;
+// An instruction whose word is another, or a refusal with another word.
+const WRONG: usize = 44;
+
+const GENERAL: usize = 45;
+
+const SPECIAL: usize = 46;
+
+const DECIMAL: usize = 47;
 
 fn main() {
-    let t = count_words();
-    let words = t.kinds;
-    kinds(words);
-    line(b"undecodable ", t.undecodable);
-    line(b"general ", t.general);
-    line(b"special ", t.special);
-    line(b"decimal ", t.decimal);
-    line(b"wrong ", t.wrong);
-}
-
-fn kinds(words: [u32; 43]) {
-    let mut k = 0;
-    while k < 43 {
-        line(&NAMES[k * 8..k * 8 + 8], words[k]);
-        k += 1;
+    let mut counts = [0; 48];
+    count_words(&mut counts);
+    let mut row = 0;
+    while row < 48 {
+        line(&NAMES[row * 12..row * 12 + 12], counts[row]);
+        row += 1;
     }
 }
 
@@ -50,80 +41,55 @@ fn line(name: &[u8], n: u32) {
     io::write_all(STDOUT_FILENO, b"\n");
 }
 
-fn count_words() -> Tally {
-    let mut t = Tally {
-        kinds: [0; 43],
-        undecodable: 0,
-        general: 0,
-        special: 0,
-        decimal: 0,
-        wrong: 0,
-    };
+fn count_words(counts: &mut [u32; 48]) {
     let mut w: u32 = 0;
     while w < 65536 {
-        t = t.with_word(w as u16)
-            .with_general(w as u16)
-            .with_special(w as u16)
-            .with_decimal(w as u16);
+        count(counts, w as u16);
         w += 1;
     }
-    t
 }
 
-impl Tally {
-    fn with_word(mut self, w: u16) -> Tally {
-        match Instruction::decode(w) {
-            Decoded::Ins(i) => {
-                let k = kind(i);
-                self.kinds[k] = std::num::wrapping_add_u32(self.kinds[k], 1);
-                self.checked(i.encode(), w)
-            }
-            Decoded::Undecodable(v) => {
-                self.undecodable = std::num::wrapping_add_u32(self.undecodable, 1);
-                self.checked(v, w)
-            }
-        }
-    }
+fn count(counts: &mut [u32; 48], w: u16) {
+    let row = row(w);
+    counts[row] = std::num::wrapping_add_u32(counts[row], 1);
+    counts[GENERAL] = std::num::wrapping_add_u32(counts[GENERAL], is_general(w) as u32);
+    counts[SPECIAL] = std::num::wrapping_add_u32(counts[SPECIAL], is_special(w) as u32);
+    counts[DECIMAL] = std::num::wrapping_add_u32(counts[DECIMAL], is_decimal(w) as u32);
+}
 
-    fn with_general(mut self, w: u16) -> Tally {
-        match GPR::decode(w) {
-            DecodedGPR::Register(r) => {
-                self.general = std::num::wrapping_add_u32(self.general, 1);
-                self.checked(r.number(), w)
-            }
-            DecodedGPR::Nothing => self,
-        }
-    }
-
-    fn with_special(mut self, w: u16) -> Tally {
-        match SPR::decode(w) {
-            DecodedSPR::Register(r) => {
-                self.special = std::num::wrapping_add_u32(self.special, 1);
-                self.checked(r.encode(), w)
-            }
-            DecodedSPR::Nothing => self,
-        }
-    }
-
-    fn with_decimal(mut self, w: u16) -> Tally {
-        match DR::decode(w) {
-            DecodedDR::Register(r) => {
-                self.decimal = std::num::wrapping_add_u32(self.decimal, 1);
-                self.checked(r.encode(), w)
-            }
-            DecodedDR::Nothing => self,
-        }
-    }
-
-    fn checked(mut self, back: u16, w: u16) -> Tally {
-        if back != w {
-            self.wrong = std::num::wrapping_add_u32(self.wrong, 1);
-        }
-        self
+// The row that a word counts in, as an instruction or none.
+fn row(w: u16) -> usize
+    ensures { λ r. ⌜ r < 48 ⌝ }
+{
+    match Instruction::decode(w) {
+        Decoded::Ins(i) => { if i.encode() == w { kind(i) } else { WRONG } }
+        Decoded::Undecodable(v) => { if v == w { UNDECODABLE } else { WRONG } }
     }
 }
 
-// The place of an instruction's name.
+// Whether a word is the number of a register that has it as its number.
+fn is_general(w: u16) -> bool {
+    match GPR::decode(w) {
+        DecodedGPR::Register(r) => r.number() == w,
+        DecodedGPR::Nothing => false,
+    }
+}
+
+fn is_special(w: u16) -> bool {
+    match SPR::decode(w) {
+        DecodedSPR::Register(r) => r.encode() == w,
+        DecodedSPR::Nothing => false,
+    }
+}
+
+fn is_decimal(w: u16) -> bool {
+    match DR::decode(w) {
+        DecodedDR::Register(r) => r.encode() == w,
+        DecodedDR::Nothing => false,
+    }
+}
+
+// The row of an instruction's kind.
 fn kind(ins: Instruction) -> usize
     ensures { λ r. ⌜ r < 43 ⌝ }
 {

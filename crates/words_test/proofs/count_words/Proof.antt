@@ -6,10 +6,10 @@ use Rattle.words_test.proofs.count_words.Statement.{statement}
 use Rattle.words_test.proofs.count_words.Tie as tie
 
 abbrev Inv-loop : tie.InvT-loop
-Inv-loop t₀ w₀ t w = w ≤ 65536
+Inv-loop counts₀ w₀ counts w = w ≤ 65536
 
 abbrev μ-loop : tie.MeasureT-loop
-μ-loop t₀ w₀ t w = 65536 - w
+μ-loop counts₀ w₀ counts w = 65536 - w
 
 pub count-words-spec : {M : Type 1} → statement M
 count-words-spec =
@@ -17,7 +17,6 @@ count-words-spec =
     (tie.spec
     Inv-loop
     μ-loop
-    (λ c. search needs) (λ c. search needs) (λ c κs. search needs) (λ c. search needs) (λ c κs. search needs)
-    (λ c. search needs) (λ c κs. search needs) (λ c. search needs) (λ c κs. search needs) (λ c. search needs)
-    (λ c. search needs) (λ c. search needs)
+    (λ c. search needs) (λ c. search needs) (λ c κs. search needs) (λ c. search needs) (λ c. search needs)
+    (λ c. search needs)
     (λ c. search needs))
