@@ -2,7 +2,7 @@
 use Prim.Native.Nat.{ℕ, _-_, _*_, _/_, _^_, _<_, _≤_}
 use native.Mathlib.Omega.{arith}
 use mathlib.Core.Path.{_≡_, _∙_}
-use borrow.Author.Tests.{lt-ltb, le-ltb, eq-eqb, ne-eqb}
+use borrow.Author.Tests.{lt-ltb, le-ltb, ne-eqb}
 use Rattle.instructions.specs.declared.reg.GeneralPurposeRegister.{GeneralPurposeRegister}
 use Rattle.instructions.specs.declared.reg.SpecialPurposeRegister.{SpecialPurposeRegister}
 use Rattle.instructions.specs.Reg.{gprAt, sprAt}
@@ -16,25 +16,19 @@ abbrev upper : ℕ → ℕ
 upper w = w / 2 ^ 16
 
 module _ (w : ℕ) where
+  kind-of-upper : (k : ℕ) → upper w ≡ k * 2 ^ 12 → kind w ≡ k
+  kind-of-upper k u = omega arith
+
+  rest-of-upper : (k : ℕ) → upper w ≡ k * 2 ^ 12 → above16 w ≡ 0
+  rest-of-upper k u = omega arith
+
   pub word : upper w ≡ 0x2000 → Word (low w) ≡ recordOf w
   unfolding recordOf
-  word u = rw (e, b)
-    where
-      e : kind w ≡ 2
-      e = omega arith
-
-      b : above16 w ≡ 0
-      b = omega arith
+  word u = rw (kind-of-upper 2 u, rest-of-upper 2 u)
 
   pub place : upper w ≡ 0x1000 → Place (low w) ≡ recordOf w
   unfolding recordOf
-  place u = rw (e, b)
-    where
-      e : kind w ≡ 1
-      e = omega arith
-
-      b : above16 w ≡ 0
-      b = omega arith
+  place u = rw (kind-of-upper 1 u, rest-of-upper 1 u)
 
   pub preset-bits : kind w ≡ 3 → (above20 w ≡ 0 → ⊥) → Refused 21 ≡ recordOf w
   unfolding recordOf

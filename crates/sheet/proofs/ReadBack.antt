@@ -14,7 +14,7 @@ use Rattle.emulator.specs.declared.core.Core.{Core}
 use Rattle.emulator.specs.Core.{newCore, readSpr}
 use Rattle.emulator.proofs.Cases.{by-test, if-elim}
 use Rattle.sheet.specs.declared.fields.Record.the-variants.{Place, Word, Preset, End}
-use Rattle.sheet.specs.Record.{kind, register, low, count, recordOf, registerOf, withRegister}
+use Rattle.sheet.specs.Record.{register, low, count, recordOf, registerOf, withRegister}
 use Rattle.sheet.specs.Load.{Reading, readFrom}
 use Rattle.sheet.specs.Write.{placeRecord, wordRecord, presetRecord, endRecord, presetsFrom, recordsAt, stretchesFrom, nonzero, wordsIn}
 use Rattle.sheet.specs.RoundTrip.{Words, WholeCore}
