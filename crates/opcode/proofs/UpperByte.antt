@@ -6,7 +6,7 @@ use mathlib.Core.Bool.{Bool, true, false, _&&_}
 use Prim.Native.Nat.{ℕ, _+_, _/_, _≤_, _<_}
 use native.Mathlib.Omega.{arith}
 use lib.Dec.{T, ltb}
-use borrow.Author.Tests.{lt-ltb, eq-eqb, ne-eqb}
+use borrow.Author.Tests.{lt-ltb, ltb-true, eq-eqb, ne-eqb}
 use Rattle.opcode.specs.Choice.{if_then_else_}
 use Rattle.opcode.specs.Opcode.{opcodeOf}
 use Rattle.opcode.specs.declared.InstructionOpcode.{InstructionOpcode}
@@ -94,3 +94,9 @@ is-undecodable hi lo two three
 -- an upper byte between two neighbouring ones
 pub is-gap : (a b hi lo : ℕ) → T (apart a b alone) → a < hi → hi < b → (hi / 8 ≡ 2 → ⊥) → (hi / 8 ≡ 3 → ⊥) → Undecodable ≡ opcodeOf hi lo
 is-gap a b hi lo t l h two three = is-undecodable hi lo two three (none a b hi l h alone t)
+
+-- the same above both ranges
+pub is-upper-gap : (a b hi lo : ℕ) → T (apart a b alone) → ltb 0x1F a ≡ true → a < hi → hi < b → Undecodable ≡ opcodeOf hi lo
+is-upper-gap a b hi lo t f l h =
+    let u : 0x1F < a = ltb-true 0x1F a f in
+    is-gap a b hi lo t l h (λ e. omega arith) (λ e. omega arith)

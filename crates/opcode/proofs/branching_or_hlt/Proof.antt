@@ -1,9 +1,10 @@
 -- `branching_or_hlt` meets its contract: the rows of its upper bytes, and what lies between them.
 -- Assumes nothing.
+use mathlib.Core.Path.{refl}
 use native.Mathlib.Omega.{arith}
 use borrow.Author.Needs.{needs}
 use borrow.Author.Tests.{ne-eqb}
-use Rattle.opcode.proofs.UpperByte.{row, second, is-gap}
+use Rattle.opcode.proofs.UpperByte.{row, second, is-upper-gap}
 use Rattle.opcode.proofs.branching_or_hlt.Statement.{statement}
 use Rattle.opcode.proofs.branching_or_hlt.Tie as tie
 
@@ -20,4 +21,4 @@ branching-or-hlt-spec =
     (λ c. rw (c .match3 .keys1))
     (λ c. search (second 0x60))
     (λ c. absurd (omega arith))
-    (λ c. is-gap 0x63 0xFF (c .before .before .before .args .hi) _ tt (omega arith) (omega arith) (omega arith) (omega arith)))
+    (λ c. is-upper-gap 0x63 0xFF (c .before .before .before .args .hi) _ tt refl (omega arith) (omega arith)))

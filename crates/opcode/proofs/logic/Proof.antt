@@ -1,13 +1,13 @@
 -- `logic` meets its contract: the rows of its upper bytes, and what lies between them.
 -- Assumes nothing.
 use mathlib.Core.Logic.{⊎-elim}
-use mathlib.Core.Path.{_≡_}
+use mathlib.Core.Path.{_≡_, refl}
 use Prim.Native.Nat.{ℕ, _≤_, _<_}
 use native.Mathlib.Omega.{arith}
 use borrow.Author.Needs.{needs}
 use Rattle.opcode.specs.Opcode.{opcodeOf}
 use Rattle.opcode.specs.declared.InstructionOpcode.{InstructionOpcode}
-use Rattle.opcode.proofs.UpperByte.{row, is-gap}
+use Rattle.opcode.proofs.UpperByte.{row, is-upper-gap}
 use Rattle.opcode.proofs.logic.Statement.{statement}
 use Rattle.opcode.proofs.logic.Tie as tie
 
@@ -23,7 +23,7 @@ gap c =
     let hi = c .before .before .args .hi in
     ⊎-elim
     (λ x. absurd (omega arith))
-    (λ x. is-gap 0x45 0x47 hi _ tt (omega arith) (omega arith) (omega arith) (omega arith))
+    (λ x. is-upper-gap 0x45 0x47 hi _ tt refl (omega arith) (omega arith))
     (c .before .if1 .came)
 
 pub logic-spec : {M : Type 1} → statement M
