@@ -88,6 +88,7 @@ fn memory_at(case: &[u8; 222], at: usize) -> [u16; 32]
     memory
 }
 
+// The classes of a step: 0 stepped, 1 halted, 2 fault. No case is refused.
 fn same_answer(answer: Answer, case: &[u8; 222]) -> bool {
     match answer {
         Answer::Stepped => same_outcome(0, 0, 0, case),
@@ -97,6 +98,7 @@ fn same_answer(answer: Answer, case: &[u8; 222]) -> bool {
     }
 }
 
+// The classes of a run: 0 halted, 1 limit, 2 fault.
 fn same_end(end: End, case: &[u8; 222]) -> bool {
     match end {
         End::Halted => same_outcome(0, 0, 0, case),
@@ -111,7 +113,7 @@ fn same_fault(stop: Stop, case: &[u8; 222]) -> bool {
     same_outcome(2, f.number as u16, f.value, case)
 }
 
-// A class of outcomes, and the number and value of a fault.
+// Whether the case has this class, and this number and value of a fault (0 where there is none).
 fn same_outcome(class: u16, number: u16, value: u16, case: &[u8; 222]) -> bool {
     class == word(case, 47) && number == word(case, 48) && value == word(case, 49)
 }

@@ -11,7 +11,7 @@ use instructions::SPR;
 use libc::STDOUT_FILENO;
 ghost use Prim.Native.Nat.{_<_};
 
-// The rows of the table, twelve bytes each: the kinds, then what follows.
+// The names of the rows, twelve bytes each: the 43 kinds, then the rows that have a name below.
 const NAMES: [u8; 576] =
     *b"nop         hlt         mov         dmov        putl        puth        read        write       spread      spwrite     dread       dwrite      push        pop         movso       movsi       spadd       spinc       spdec       not         and         booland     or          xor         shl         shr         bitset      neg         inc         dec         add         sub         mul         inv         eqz         eq          gt          gteq        jmpoff      cjmpoff     cjmp        call        ret         undecodable wrong       general     special     decimal     ";
 
@@ -57,7 +57,7 @@ fn count(counts: &mut [u32; 48], w: u16) {
     counts[DECIMAL] = std::num::wrapping_add_u32(counts[DECIMAL], is_decimal(w) as u32);
 }
 
-// The row that a word counts in, as an instruction or none.
+// The row in which a word counts: that of its kind, or that it is undecodable or does not come back.
 fn row(w: u16) -> usize
     ensures { λ r. ⌜ r < 48 ⌝ }
 {
@@ -67,7 +67,7 @@ fn row(w: u16) -> usize
     }
 }
 
-// Whether a word is the number of a register that has it as its number.
+// Whether a word decodes to a register whose number is that word again.
 fn is_general(w: u16) -> bool {
     match GPR::decode(w) {
         DecodedGPR::Register(r) => r.number() == w,
