@@ -14,15 +14,19 @@ use Rattle.instructions.specs.Reg.{gprNumber}
 use Rattle.instructions.specs.declared.ins.Instruction.{Instruction}
 use Rattle.instructions.specs.declared.ins.encoding.Decoded.{Decoded}
 use Rattle.instructions.specs.declared.reg.GeneralPurposeRegister.{GeneralPurposeRegister}
+use Rattle.instructions.specs.declared.reg.SpecialPurposeRegister.{SpecialPurposeRegister}
+use Rattle.instructions.specs.declared.reg.SpecialPurposeRegister.the-variants.{EF}
 use Rattle.execute.specs.Execute.{executeOf}
+use Rattle.execute.specs.Flags.{withCond}
 use Rattle.execute.specs.Registers.{registers}
 use Rattle.execute.specs.Word.{addWord, subWord}
 use Rattle.execute.specs.declared.effect.Effect.{Effect}
 use Rattle.execute.specs.declared.effect.Effect.the-variants as effect
-use Rattle.emulator.specs.Core.{coreOf}
+use Rattle.emulator.specs.Core.{coreOf, writeGpr, writeSpr, setCond}
 use Rattle.emulator.specs.Memory.{Memory, lent, refusedLength, readMark, writeMark, accessed, readOf, fetchOf, writeOf}
-use Rattle.emulator.specs.Outcome.{progressOf}
+use Rattle.emulator.specs.Outcome.{Outcome, stopOf, progressOf}
 use Rattle.emulator.specs.Machine.{Turn, turn, afterOf, accessOf, makeOf, planOf, cycleOf, refusalOf}
+use Rattle.emulator.specs.declared.core.Core.{Core}
 use Rattle.emulator.specs.declared.cycle.Cycled.{Cycled}
 use Rattle.emulator.specs.declared.cycle.Progress.{Progress}
 use Rattle.emulator.specs.declared.memory.Read.{Read}
@@ -30,6 +34,20 @@ use Rattle.emulator.specs.declared.memory.Write.{Write}
 use Rattle.emulator.specs.declared.stop.Stop.{Stop}
 use Rattle.emulator.specs.declared.stop.Stop.the-variants as stop
 use Rattle.emulator.proofs.Cases.{if-elim}
+
+-- a register written, by which register a match told or what its number is; the flags with a condition; a stop by its number
+module _ (c : Core) (v : ℕ) where
+  pub spr-written : {r s : SpecialPurposeRegister} {d : Core} → r ≡ s → d ≡ writeSpr c s v → d ≡ writeSpr c r v
+  spr-written e h = rw e h
+
+  pub gpr-written : (r : GeneralPurposeRegister) {i n : ℕ} → Bounded i (gprNumber r) n → coreOf (set (c .gprs) i v) (c .ip) (c .rp) (c .sp) (c .ef) ≡ writeGpr c r v
+  gpr-written r b = rw (b .is)
+
+pub cond-written : (c : Core) (b : Bool) {flags : ℕ} → flags ≡ withCond (c .ef) b → writeSpr c EF flags ≡ setCond c b
+cond-written c b e = rw e
+
+pub stopped-by : {s t : Stop} {o : Outcome} → s ≡ t → stopOf t ≡ o → stopOf s ≡ o
+stopped-by e h = rw e h
 
 -- a read and a write, by their range
 module _ (ws ms : List ℕ) (a : ℕ) where

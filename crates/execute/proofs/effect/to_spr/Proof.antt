@@ -1,5 +1,6 @@
 -- `execute::effect::to_spr` meets its contract: each arm by the register that it is told.
 use borrow.Author.Needs.{needs}
+use Rattle.execute.proofs.Arms.{spr-told}
 use Rattle.execute.proofs.effect.to_spr.Statement.{statement}
 use Rattle.execute.proofs.effect.to_spr.Tie as tie
 
@@ -11,7 +12,7 @@ to-spr-spec =
     (λ c. search needs)
     (λ c. search needs)
     (λ c. search needs)
-    (λ c. cc)
-    (λ c. cc)
-    (λ c. cc)
-    (λ c. cc))
+    (λ c. search spr-told)
+    (λ c. search spr-told)
+    (λ c. search spr-told)
+    (λ c. search spr-told))

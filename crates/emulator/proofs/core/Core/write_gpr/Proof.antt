@@ -1,5 +1,6 @@
 -- `emulator::core::Core::write_gpr` meets its contract: the index is the register's number.
 use borrow.Author.Needs.{needs}
+use Rattle.emulator.proofs.Laws.{gpr-written}
 use Rattle.emulator.proofs.core.Core.write_gpr.Statement.{statement}
 use Rattle.emulator.proofs.core.Core.write_gpr.Tie as tie
 
@@ -11,4 +12,4 @@ write-gpr-spec =
     (λ c. search needs)
     (λ c. search needs)
     (λ c. search needs)
-    (λ c. cc))
+    (λ c. search gpr-written))

@@ -1,5 +1,6 @@
 -- `emulator::stop::Stop::fault` meets its contract, by what the match told.
 use borrow.Author.Needs.{needs}
+use Rattle.emulator.proofs.Laws.{stopped-by}
 use Rattle.emulator.proofs.stop.Stop.fault.Statement.{statement}
 use Rattle.emulator.proofs.stop.Stop.fault.Tie as tie
 
@@ -12,8 +13,8 @@ fault-spec =
     (λ c. search needs)
     (λ c. search needs)
     (λ c. search needs)
-    (λ c. cc)
-    (λ c. cc)
-    (λ c. cc)
-    (λ c. cc)
-    (λ c. cc))
+    (λ c. search stopped-by)
+    (λ c. search stopped-by)
+    (λ c. search stopped-by)
+    (λ c. search stopped-by)
+    (λ c. search stopped-by))
