@@ -22,18 +22,18 @@ pub fn replay(case: &[u8; 222]) -> bool {
 
 // A step of a core that is lent, which makes the step of a core by value.
 fn replay_step(case: &[u8; 222]) -> bool {
-    let mut memory = memory_at(case, 15);
+    let mut memory = memory_of(case);
     let mut marks = [mark(case); 32];
-    let s = step_by_lent(core_at(case, 3), &mut memory, &mut marks);
+    let s = step_by_lent(core_of(case), &mut memory, &mut marks);
     let after = s.core;
     let answer = s.answer;
     same_answer(answer, case) && same_core(after, case) && same_memory(&memory, &marks, case)
 }
 
 fn replay_run(case: &[u8; 222]) -> bool {
-    let mut memory = memory_at(case, 15);
+    let mut memory = memory_of(case);
     let mut marks = [mark(case); 32];
-    let r = core_at(case, 3).run(&mut memory, &mut marks, word(case, 1) as u32);
+    let r = core_of(case).run(&mut memory, &mut marks, word(case, 1) as u32);
     let after = r.core;
     let end = r.end;
     r.steps == word(case, 50) as u32
@@ -61,28 +61,25 @@ fn mark(case: &[u8; 222]) -> u8 {
     (word(case, 2) % 256) as u8
 }
 
-fn core_at(case: &[u8; 222], at: usize) -> Core
-    requires { ⌜ at < 90 ⌝ }
-{
+// The core and the memory that the case starts with.
+fn core_of(case: &[u8; 222]) -> Core {
     let mut core = Core::new();
     let mut i: usize = 0;
     while i < 8 {
-        core = core.write_gpr(GPR::from_low_bits(i as u8), word(case, at + i));
+        core = core.write_gpr(GPR::from_low_bits(i as u8), word(case, 3 + i));
         i += 1;
     }
-    core = core.write_spr(SPR::IP, word(case, at + 8));
-    core = core.write_spr(SPR::RP, word(case, at + 9));
-    core = core.write_spr(SPR::SP, word(case, at + 10));
-    core.write_spr(SPR::EF, word(case, at + 11))
+    core = core.write_spr(SPR::IP, word(case, 11));
+    core = core.write_spr(SPR::RP, word(case, 12));
+    core = core.write_spr(SPR::SP, word(case, 13));
+    core.write_spr(SPR::EF, word(case, 14))
 }
 
-fn memory_at(case: &[u8; 222], at: usize) -> [u16; 32]
-    requires { ⌜ at < 70 ⌝ }
-{
+fn memory_of(case: &[u8; 222]) -> [u16; 32] {
     let mut memory = [0u16; 32];
     let mut i = 0;
     while i < 32 {
-        memory[i] = word(case, at + i);
+        memory[i] = word(case, 15 + i);
         i += 1;
     }
     memory
