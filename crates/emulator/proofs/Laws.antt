@@ -1,4 +1,4 @@
--- Laws of the definitions of an access, a cycle and the host tests, one for each way through the code: the premises are what the way's
+-- Laws of the definitions of the registers, a stop, an access, a cycle and the host tests, one for each way through the code: the premises are what the way's
 -- tests and callees tell, so that `search` with the law proves the way's `returns`.
 use Prim.Native.Nat.{ℕ, _<_, _≤_}
 use mathlib.Core.Bool.{Bool, true, false}

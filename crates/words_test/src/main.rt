@@ -27,7 +27,7 @@ const SPECIAL: u8 = 46;
 const DECIMAL: u8 = 47;
 
 fn main() {
-    // one for every byte, so that a row needs no bound
+    // A count for every byte, so that a row needs no bound.
     let mut counts = [0; 256];
     count_words(&mut counts);
     let mut row = 0;
@@ -54,6 +54,7 @@ fn count(counts: &mut [u64; 256], w: u16) {
     add(counts, DECIMAL, is_decimal(w));
 }
 
+// Counts one more in a row, or none.
 fn add(counts: &mut [u64; 256], row: u8, one: bool) {
     let at = row as usize;
     counts[at] = std::num::wrapping_add_u64(counts[at], one as u64);

@@ -6,10 +6,10 @@ use Rattle.words_test.proofs.main.Statement.{statement}
 use Rattle.words_test.proofs.main.Tie as tie
 
 abbrev Inv-loop : tie.InvT-loop
-Inv-loop counts row₀ t4 t row = row ≤ 48
+Inv-loop counts row₀ t4 newline row = row ≤ 48
 
 abbrev μ-loop : tie.MeasureT-loop
-μ-loop counts row₀ t4 t row = 48 - row
+μ-loop counts row₀ t4 newline row = 48 - row
 
 pub main-spec : {M : Type 1} → statement M
 main-spec =
