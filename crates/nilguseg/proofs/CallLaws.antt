@@ -12,7 +12,9 @@ use Rattle.sheet.specs.Load.{Left, left}
 use Rattle.sheet.specs.declared.load.Loaded.{Loaded}
 use Rattle.sheet.specs.declared.write.Written.{Written}
 use Rattle.sheet.specs.Write.{wrote, writeSheetOf}
-use Rattle.nilguseg.specs.Host.{coreFrom, wordsOf, outcomeNumber, loadedNumber, writtenNumber, call, stepCall, runCall, loadCall, writeCall}
+use Rattle.order.specs.declared.Order.{Order}
+use Rattle.order.specs.declared.Part.{Part}
+use Rattle.nilguseg.specs.Host.{coreFrom, wordsOf, outcomeNumber, loadedNumber, writtenNumber, orderNumber, call, stepCall, runCall, loadCall, writeCall, partCall}
 
 module _ (ws mem₀ ms₀ : List ℕ) {k c : Core} {words mem ms : List ℕ} {o : machine.Outcome} (taken : k ≡ coreFrom ws) (put : words ≡ wordsOf c) where
   pub stepped : {r : ℕ} → turn o c (lent mem ms) ≡ stepOf planOf k (lent mem₀ ms₀) → r ≡ outcomeNumber o →
@@ -31,3 +33,9 @@ pub written : (ws mem₀ buffer₀ : List ℕ) {k : Core} {buffer : List ℕ} {x
     k ≡ coreFrom ws → wrote x buffer ≡ writeSheetOf k mem₀ buffer₀ → r ≡ writtenNumber x →
     call r (buffer ∷ []) ≡ writeCall (writeSheetOf (coreFrom ws) mem₀ buffer₀)
 written ws mem₀ buffer₀ taken h n = rw (← taken, ← h, n)
+
+pub compared : (x : Order) {o : Order} {r : ℕ} → o ≡ x → r ≡ orderNumber o → r ≡ orderNumber x
+compared x h n = rw (← h) n
+
+pub parted : (x : Part) {p : Part} {r : ℕ} → p ≡ x → r ≡ orderNumber (p .order) → call r ((p .from ∷ []) ∷ []) ≡ partCall x
+parted x h n = rw (← h, n)

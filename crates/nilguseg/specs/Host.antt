@@ -1,4 +1,5 @@
--- What a host sees of a call: a number, and lists of numbers that it lent (document 01, Stops and Records, in the layout of the header).
+-- What a host sees of a call: a number, and lists of numbers that it lent (document 01, Stops and Records, and
+-- document 02, CR 1, in the layout of the header).
 use Prim.Native.Nat.{ℕ, _+_, _*_, _^_}
 use mathlib.Core.List.{List, [], _∷_, _++_}
 use lib.ListN.{take, getD}
@@ -10,6 +11,8 @@ use Rattle.sheet.specs.declared.load.Loaded.{Loaded}
 use Rattle.sheet.specs.declared.write.Written.{Written}
 use Rattle.sheet.specs.Load.{Left}
 use Rattle.sheet.specs.Write.{Wrote}
+use Rattle.order.specs.declared.Order.{Order}
+use Rattle.order.specs.declared.Part.{Part}
 
 -- the core record as twelve words: r0 to r7, ip, rp, sp, ef, which the header's struct `nilguseg_core` names
 abbrev pub coreFrom : List ℕ → Core
@@ -40,6 +43,12 @@ abbrev pub writtenNumber : Written → ℕ
 writtenNumber (Written.Records n) = n
 writtenNumber (Written.Refused n) = n * 2 ^ 32
 
+-- a comparison: which of two lists comes first
+abbrev pub orderNumber : Order → ℕ
+orderNumber Order.Equal = 0
+orderNumber Order.First = 1
+orderNumber Order.Second = 2
+
 -- what a call leaves: its answer, and what each list that it may change holds, in the order of the parameters
 pub record Call : Type 0 where
   pub answer : ℕ
@@ -60,3 +69,7 @@ loadCall l = call (loadedNumber (l .answer)) (wordsOf (l .core) ∷ l .memory �
 
 abbrev pub writeCall : Wrote → Call
 writeCall w = call (writtenNumber (w .answer)) (w .buffer ∷ [])
+
+-- the part of the earlier list: the order, and the place from which on it is
+abbrev pub partCall : Part → Call
+partCall p = call (orderNumber (p .order)) ((p .from ∷ []) ∷ [])

@@ -1,11 +1,14 @@
-// What C and Rust hosts call to load, run and write. A slice is a pointer and then a length, an array a pointer.
+// What C and Rust hosts call to load, run and write, and to compare word lists. A slice is a pointer and then a length, an array a pointer.
 // `Instruction::decode` must have no caller here but the cycle, or it is not inlined into the run: see `nilguseg_words`.
 use crate::core::core_of;
 use crate::core::put_core;
 use crate::number::end_number;
 use crate::number::loaded_number;
+use crate::number::order_number;
 use crate::number::step_number;
 use crate::number::written_number;
+use order::compare;
+use order::earlier_part;
 use sheet::load_sheet;
 use sheet::load_words;
 use sheet::write_sheet;
@@ -13,9 +16,10 @@ ghost use mathlib.Core.Path.{_≡_};
 ghost use mathlib.Core.List.{[], _∷_};
 ghost use Rattle.emulator.specs.Memory.{lent};
 ghost use Rattle.emulator.specs.Machine.{planOf, stepOf, runOf};
+ghost use Rattle.order.specs.Order.{orderOf, partOf};
 ghost use Rattle.sheet.specs.Load.{loadWordsOf, loadSheetOf};
 ghost use Rattle.sheet.specs.Write.{writeSheetOf};
-ghost use Rattle.nilguseg.specs.Host.{coreFrom, call, stepCall, runCall, loadCall, writeCall};
+ghost use Rattle.nilguseg.specs.Host.{coreFrom, call, stepCall, runCall, loadCall, writeCall, orderNumber, partCall};
 
 mod core;
 mod number;
@@ -87,4 +91,23 @@ pub extern "C" fn nilguseg_write_sheet(core: &[u16; 12], memory: &[u16], sheet: 
     ensures { λ r. ⌜ call r (now (sheet .exit) ∷ []) ≡ writeCall (writeSheetOf (coreFrom (now (core .entry))) (now (memory .entry)) (now (sheet .entry))) ⌝ }
 {
     written_number(write_sheet(core_of(*core), memory, sheet))
+}
+
+// Which of two word lists comes first.
+#[no_mangle]
+pub extern "C" fn nilguseg_compare(first: &[u16], second: &[u16]) -> u32
+    ensures { λ r. ⌜ r ≡ orderNumber (orderOf (now (first .entry)) (now (second .entry))) ⌝ }
+{
+    order_number(compare(first, second))
+}
+
+// The part of the earlier list from the first place where they differ on.
+#[no_mangle]
+pub extern "C" fn nilguseg_earlier(first: &[u16], second: &[u16], from: &mut usize) -> u32
+    ensures { λ r. ⌜ call r ((now (from .exit) ∷ []) ∷ []) ≡ partCall (partOf (now (first .entry)) (now (second .entry))) ⌝ }
+{
+    let part = earlier_part(first, second);
+    let order = part.order;
+    *from = part.from;
+    order_number(order)
 }

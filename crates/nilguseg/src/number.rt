@@ -1,11 +1,12 @@
 // The numbers that a call answers.
 use emulator::Answer;
 use emulator::End;
+use order::Order;
 use sheet::Loaded;
 use sheet::Written;
 ghost use mathlib.Core.Path.{_≡_};
 ghost use Rattle.emulator.specs.Outcome.{answerOf, endOf};
-ghost use Rattle.nilguseg.specs.Host.{answered, outcomeNumber, loadedNumber, writtenNumber};
+ghost use Rattle.nilguseg.specs.Host.{answered, outcomeNumber, loadedNumber, writtenNumber, orderNumber};
 
 fn number(how: u8, number: u8, value: u16) -> u32
     ensures { λ r. ⌜ r ≡ answered how number value ⌝ }
@@ -54,5 +55,15 @@ pub fn written_number(answer: Written) -> u64
     match answer {
         Written::Records(count) => count as u64,
         Written::Refused(test) => test as u64 * 0x100000000,
+    }
+}
+
+pub fn order_number(order: Order) -> u32
+    ensures { λ r. ⌜ r ≡ orderNumber order ⌝ }
+{
+    match order {
+        Order::Equal => 0,
+        Order::First => 1,
+        Order::Second => 2,
     }
 }
