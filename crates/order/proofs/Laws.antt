@@ -1,8 +1,8 @@
 -- Laws of the comparison, one for each way through the code: the premises are what the way's tests and callees tell.
 use Prim.Native.Nat.{ℕ, zero, suc, _+_, _*_, _-_, _<_, _≤_, min, max}
-use native.Mathlib.Nat.{sub-zero, sub-eq-zero-of-le, min-le-right, add-comm, le-of-eq}
+use native.Mathlib.Nat.{sub-zero, sub-eq-zero-of-le, add-comm, le-of-eq, le-of-lt}
 use mathlib.Core.List.{List}
-use mathlib.Core.Path.{_≡_, sym, subst, _∙_}
+use mathlib.Core.Path.{_≡_, sym, _∙_}
 use native.Mathlib.Omega.{arith}
 use lib.ListN.{length, take, drop, length-drop, List·getD-eq-default}
 use lib.Seq.{take-all}
@@ -10,24 +10,24 @@ use denote.Ref.{RefT}
 use borrow.Author.Tests.{lt-ltb, le-ltb, eq-eqb, ne-eqb}
 use Rattle.order.specs.declared.Order.{Order}
 use Rattle.order.specs.declared.Part.{Part}
-use Rattle.order.specs.Order.{wordAt, differFrom, placeOf, byWords, orderOf, earlierOf, partOf, Slice, sliceOf, fromPlace, earlierPart}
+use Rattle.order.specs.Order.{wordIn, differFrom, placeOf, byWords, orderOf, earlierOf, partOf, Slice, sliceOf, fromPlace, earlierPart}
 
-pub past-end : (words : List ℕ) (k : ℕ) → length words ≤ k → 0 ≡ wordAt words k
+pub past-end : (words : List ℕ) (k : ℕ) → length words ≤ k → 0 ≡ wordIn words k
 past-end words k over = sym (List·getD-eq-default words 0 over)
 
--- two words
-module _ {v w : ℕ} where
-  pub first-smaller : v < w → Order.First ≡ byWords v w
+-- the words at a place
+module _ (a b : List ℕ) (at : ℕ) {v w : ℕ} (e : v ≡ wordIn a at) (d : w ≡ wordIn b at) where
+  pub first-smaller : v < w → Order.First ≡ byWords (wordIn a at) (wordIn b at)
   unfolding byWords
-  first-smaller l = rw (lt-ltb v w l)
+  first-smaller l = rw (← e, ← d, lt-ltb v w l)
 
-  pub second-smaller : w ≤ v → w < v → Order.Second ≡ byWords v w
+  pub second-smaller : w < v → Order.Second ≡ byWords (wordIn a at) (wordIn b at)
   unfolding byWords
-  second-smaller n l = rw (le-ltb v w n, lt-ltb w v l)
+  second-smaller l = rw (← e, ← d, le-ltb v w (le-of-lt l), lt-ltb w v l)
 
-  pub same-words : w ≤ v → v ≤ w → Order.Equal ≡ byWords v w
+  pub same-words : w ≤ v → v ≤ w → Order.Equal ≡ byWords (wordIn a at) (wordIn b at)
   unfolding byWords
-  same-words n m = rw (le-ltb v w n, le-ltb w v m)
+  same-words n m = rw (← e, ← d, le-ltb v w n, le-ltb w v m)
 
 -- the search for the place: the places that are left to be compared give it
 pub record Searching (a b : List ℕ) (end at : ℕ) : Type 0 where
@@ -46,7 +46,7 @@ module _ {a b : List ℕ} where
         let none : differFrom (end - at) at a b ≡ at = rw (sub-eq-zero-of-le over) in
         sym none ∙ s .place
 
-    module _ {v w : ℕ} (l : at < end) (e : v ≡ wordAt a at) (d : w ≡ wordAt b at) where
+    module _ {v w : ℕ} (l : at < end) (e : v ≡ wordIn a at) (d : w ≡ wordIn b at) where
       left : end - at ≡ suc (end - (at + 1))
       left = omega arith
 
@@ -62,34 +62,27 @@ module _ {a b : List ℕ} where
           let on : differFrom (end - at) at a b ≡ differFrom (end - (at + 1)) (at + 1) a b = rw (left, ← e, ← d, eq-eqb v w q) in
           record { within = omega arith; place = sym on ∙ s .place }
 
--- the part, where the order is known
-pub part-told : (a b : List ℕ) {at v w from : ℕ} {o x : Order} → at ≡ placeOf a b → v ≡ wordAt a at → w ≡ wordAt b at → o ≡ byWords v w → o ≡ x
-    → from ≡ min at (length (earlierOf x a b)) → record { order = x; from = from } ≡ partOf a b
-unfolding partOf orderOf
-part-told a b p e d o y f = rw (← p, ← e, ← d, ← o, y, f)
+-- the order and the part at that place
+module _ (a b : List ℕ) {at : ℕ} {o : Order} (p : at ≡ placeOf a b) (e : o ≡ byWords (wordIn a at) (wordIn b at)) where
+  pub order-told : o ≡ orderOf a b
+  unfolding orderOf
+  order-told = rw (← p) e
 
-module _ (a b : List ℕ) {p : Part} (q : p ≡ partOf a b) where
-  pub part-order : p .order ≡ orderOf a b
+  pub part-told : {x : Order} {from : ℕ} → o ≡ x → from ≡ min at (length (earlierOf x a b)) → record { order = x; from = from } ≡ partOf a b
   unfolding partOf
-  part-order = rw q
+  part-told y f = rw (← order-told, ← p, y, f)
 
--- a part begins within its list
-pub part-within : (x : Order) (a b : List ℕ) {p : Part} → p ≡ partOf a b → p .order ≡ x → p .from ≤ length (earlierOf x a b)
-unfolding partOf
-part-within x a b {p} q e =
-    let from : p .from ≤ length (earlierOf (p .order) a b) = rw q (min-le-right _ _) in
-    subst (λ (y : Order). p .from ≤ length (earlierOf y a b)) e from
-
--- what a list from place k on is, by its pointer and its words
-pub tail-told : (s r : RefT (List ℕ)) (k : ℕ) → k ≤ length (s .now) → r .ptr ≡ (s .ptr .0, k * 2 + s .ptr .1)
-    → r .now ≡ take (length (s .now) - k) (drop k (s .now)) → sliceOf r ≡ fromPlace (sliceOf s) k
+-- what the list from a place on is, by its pointer and its words
+pub tail-told : (s r : RefT (List ℕ)) {k : ℕ} (n : ℕ) → k ≡ min n (length (s .now)) → r .ptr ≡ (s .ptr .0, k * 2 + s .ptr .1)
+    → r .now ≡ take (length (s .now) - k) (drop k (s .now)) → sliceOf r ≡ fromPlace (sliceOf s) (min n (length (s .now)))
 unfolding sliceOf fromPlace
-tail-told s r k l p n =
+tail-told s r {k} n q p w =
     let all : take (length (s .now) - k) (drop k (s .now)) ≡ drop k (s .now) =
     take-all (length (s .now) - k) (drop k (s .now)) (le-of-eq (length-drop k (s .now))) in
-    rw (p, n, all, add-comm (k * 2) (s .ptr .1))
+    rw (p, w, all, add-comm (k * 2) (s .ptr .1), q)
 
-pub earlier-told : (x : Order) (a b : RefT (List ℕ)) {p : Part} {s : Slice} → p ≡ partOf (a .now) (b .now) → p .order ≡ x
-    → s ≡ fromPlace (earlierOf x (sliceOf a) (sliceOf b)) (p .from) → s ≡ earlierPart (sliceOf a) (sliceOf b)
-unfolding sliceOf earlierPart
-earlier-told x a b q e t = rw (← q, e) t
+pub earlier-told : (x : Order) (a b : RefT (List ℕ)) {at : ℕ} {o : Order} {s : Slice} → at ≡ placeOf (a .now) (b .now)
+    → o ≡ byWords (wordIn (a .now) at) (wordIn (b .now) at) → o ≡ x
+    → s ≡ fromPlace (earlierOf x (sliceOf a) (sliceOf b)) (min at (length (earlierOf x (a .now) (b .now)))) → s ≡ earlierPart (sliceOf a) (sliceOf b)
+unfolding sliceOf earlierPart partOf
+earlier-told x a b p e y t = rw (← order-told (a .now) (b .now) p e, ← p, y) t

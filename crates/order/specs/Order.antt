@@ -10,13 +10,13 @@ use Rattle.order.specs.declared.Order.{Order}
 use Rattle.order.specs.declared.Part.{Part}
 
 -- the word at a place: 0 past the end
-abbrev pub wordAt : List ℕ → ℕ → ℕ
-wordAt words k = getD words k 0
+abbrev pub wordIn : List ℕ → ℕ → ℕ
+wordIn words k = getD words k 0
 
 -- the first of n places from k on where they differ; the place past those if there is none
 unfoldable pub differFrom : ℕ → ℕ → List ℕ → List ℕ → ℕ
 differFrom zero k first second = k
-differFrom (suc n) k first second = if eqb (wordAt first k) (wordAt second k) then differFrom n (k + 1) first second else k
+differFrom (suc n) k first second = if eqb (wordIn first k) (wordIn second k) then differFrom n (k + 1) first second else k
 
 -- the first place where they differ; if there is none, the end of the longer, from which on both have only zeros
 unfoldable pub placeOf : List ℕ → List ℕ → ℕ
@@ -28,7 +28,7 @@ byWords v w = if ltb v w then Order.First else if ltb w v then Order.Second else
 
 -- the order of two lists: that of their words at that place
 unfoldable pub orderOf : List ℕ → List ℕ → Order
-orderOf first second = byWords (wordAt first (placeOf first second)) (wordAt second (placeOf first second))
+orderOf first second = byWords (wordIn first (placeOf first second)) (wordIn second (placeOf first second))
 
 -- the earlier of two; the first where they are equal
 abbrev pub earlierOf : {A : Type 0} → Order → A → A → A

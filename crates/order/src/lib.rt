@@ -1,8 +1,8 @@
 // Which of two word lists comes first. They are compared at the first place where they differ, the shorter taken as followed by zeros.
 ghost use mathlib.Core.Path.{_≡_};
-ghost use Prim.Native.Nat.{_≤_, min, max};
+ghost use Prim.Native.Nat.{min, max};
 ghost use lib.ListN.{length};
-ghost use Rattle.order.specs.Order.{wordAt, placeOf, byWords, orderOf, partOf, sliceOf, fromPlace, earlierPart};
+ghost use Rattle.order.specs.Order.{wordIn, placeOf, byWords, orderOf, partOf, sliceOf, fromPlace, earlierPart};
 
 // Which comes first; equal lists differ in trailing zeros only.
 pub enum Order {
@@ -11,15 +11,16 @@ pub enum Order {
     Equal,
 }
 
-// The part of the earlier list that `earlier` hands back, by numbers: which list comes first, and the place in it from which on it is.
-// Where they are equal, the part is of the first.
+// What `earlier` hands back, in numbers: which list comes first, and the place in it from which on it is handed back. Where they are equal, that
+// is the end of the first.
 pub struct Part {
     pub order: Order,
     pub from: usize,
 }
 
-fn word_at(words: &[u16], at: usize) -> u16
-    ensures { λ r. ⌜ r ≡ wordAt (now (words .entry)) at ⌝ }
+// The word at a place: 0 past the end.
+fn word_in(words: &[u16], at: usize) -> u16
+    ensures { λ r. ⌜ r ≡ wordIn (now (words .entry)) at ⌝ }
 {
     if at < words.len() { words[at] } else { 0 }
 }
@@ -41,7 +42,7 @@ fn place(first: &[u16], second: &[u16]) -> usize
     let end = longer(first, second);
     let mut at = 0;
     while at < end {
-        if word_at(first, at) != word_at(second, at) {
+        if word_in(first, at) != word_in(second, at) {
             return at;
         }
         at += 1;
@@ -49,10 +50,12 @@ fn place(first: &[u16], second: &[u16]) -> usize
     at
 }
 
-// The smaller word comes first.
-fn by_words(v: u16, w: u16) -> Order
-    ensures { λ r. ⌜ r ≡ byWords v w ⌝ }
+// The order of the words at a place: the smaller comes first.
+fn order_at(first: &[u16], second: &[u16], at: usize) -> Order
+    ensures { λ r. ⌜ r ≡ byWords (wordIn (now (first .entry)) at) (wordIn (now (second .entry)) at) ⌝ }
 {
+    let v = word_in(first, at);
+    let w = word_in(second, at);
     if v < w {
         return Order::First;
     }
@@ -62,18 +65,46 @@ fn by_words(v: u16, w: u16) -> Order
     Order::Equal
 }
 
-// The place, or the list's end where that comes before.
+// The place, or the list's end if it is over there.
 fn within(words: &[u16], at: usize) -> usize
     ensures { λ r. ⌜ r ≡ min at (length (now (words .entry))) ⌝ }
 {
     if at < words.len() { at } else { words.len() }
 }
 
+// The list from a place on; its empty end if it is over there.
+fn tail(words: &[u16], at: usize) -> &[u16]
+    ensures { λ r. ⌜ sliceOf r ≡ fromPlace (sliceOf (words .entry)) (min at (length (now (words .entry)))) ⌝ }
+{
+    let from = within(words, at);
+    &words[from..]
+}
+
+// Which of the two comes first.
+pub fn compare(first: &[u16], second: &[u16]) -> Order
+    ensures { λ r. ⌜ r ≡ orderOf (now (first .entry)) (now (second .entry)) ⌝ }
+{
+    order_at(first, second, place(first, second))
+}
+
+// The part of the earlier list from the first place where they differ on: its empty end if it is over there, and that of the first if they are equal.
+pub fn earlier<'a>(first: &'a [u16], second: &'a [u16]) -> &'a [u16]
+    ensures { λ r. ⌜ sliceOf r ≡ earlierPart (sliceOf (first .entry)) (sliceOf (second .entry)) ⌝ }
+{
+    let at = place(first, second);
+    match order_at(first, second, at) {
+        Order::First => tail(first, at),
+        Order::Second => tail(second, at),
+        Order::Equal => tail(first, at),
+    }
+}
+
+// The same part in numbers, for a host.
 pub fn earlier_part(first: &[u16], second: &[u16]) -> Part
     ensures { λ r. ⌜ r ≡ partOf (now (first .entry)) (now (second .entry)) ⌝ }
 {
     let at = place(first, second);
-    match by_words(word_at(first, at), word_at(second, at)) {
+    match order_at(first, second, at) {
         Order::First => Part {
             order: Order::First,
             from: within(first, at),
@@ -86,34 +117,5 @@ pub fn earlier_part(first: &[u16], second: &[u16]) -> Part
             order: Order::Equal,
             from: within(first, at),
         },
-    }
-}
-
-// Which of the two comes first.
-pub fn compare(first: &[u16], second: &[u16]) -> Order
-    ensures { λ r. ⌜ r ≡ orderOf (now (first .entry)) (now (second .entry)) ⌝ }
-{
-    earlier_part(first, second).order
-}
-
-// The list from a place on.
-fn tail(words: &[u16], from: usize) -> &[u16]
-    requires { ⌜ from ≤ length (now words) ⌝ }
-    ensures { λ r. ⌜ sliceOf r ≡ fromPlace (sliceOf (words .entry)) from ⌝ }
-{
-    &words[from..]
-}
-
-// The part of the earlier list from the first place where they differ on: its empty end if it is over there, and the first's if they are equal.
-pub fn earlier<'a>(first: &'a [u16], second: &'a [u16]) -> &'a [u16]
-    ensures { λ r. ⌜ sliceOf r ≡ earlierPart (sliceOf (first .entry)) (sliceOf (second .entry)) ⌝ }
-{
-    let part = earlier_part(first, second);
-    let order = part.order;
-    let from = part.from;
-    match order {
-        Order::First => tail(first, from),
-        Order::Second => tail(second, from),
-        Order::Equal => tail(first, from),
     }
 }
