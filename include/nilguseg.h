@@ -1,6 +1,6 @@
 /* Nilguseg: the Delta Null interpreter, for C hosts. Link with libnilguseg.a and, for decode and encode, libnilguseg_words.a.
  *
- * The numbers of faults and refusals are those of document 01.
+ * The numbers of faults and refusals are those of document 01; the order of word lists is that of document 02.
  *
  * Required of every call: each pointer is valid for its length (one core, else as many elements as the length
  * beside it says), and what is lent for writing overlaps nothing else that is lent.
@@ -146,6 +146,24 @@ uint32_t nilguseg_load_sheet(nilguseg_core *core, const uint32_t *sheet, size_t 
  *     4   sheet_len is below the number of records. 13 + memory_len + (memory_len + 1) / 2 always suffice. */
 uint64_t nilguseg_write_sheet(const nilguseg_core *core, const uint16_t *memory, size_t memory_len, uint32_t *sheet,
                               size_t sheet_len);
+
+/* Which of two word lists comes first. */
+enum {
+    NILGUSEG_EQUAL = 0,
+    NILGUSEG_FIRST = 1,
+    NILGUSEG_SECOND = 2
+};
+
+/* Compares two word lists of any lengths: NILGUSEG_FIRST, _SECOND or _EQUAL.
+ * They are compared at the first place where they differ, the shorter taken as followed by zeros; the smaller word comes
+ * first. Lists that differ only in trailing zeros are equal. The two may overlap. */
+uint32_t nilguseg_compare(const uint16_t *first, size_t first_len, const uint16_t *second, size_t second_len);
+
+/* The part of the earlier list from that place on. Answers what nilguseg_compare does, and sets *from to the place in the
+ * earlier list from which on the part is: in the second for NILGUSEG_SECOND, else in the first.
+ * Where the earlier list is over at that place, and where both are equal, *from is its length: the part is its empty end. */
+uint32_t nilguseg_earlier(const uint16_t *first, size_t first_len, const uint16_t *second, size_t second_len,
+                          size_t *from);
 
 #ifdef __cplusplus
 }

@@ -1,5 +1,5 @@
-/* The worked example of document 01: putl r0 3, hlt; once from a word list, once from a rule sheet.
- * Ends with status 1 if anything is not as document 01 says. */
+/* The worked example of document 01: putl r0 3, hlt; once from a word list, once from a rule sheet. Then word lists compared.
+ * Ends with status 1 if anything is not as the documents say. */
 #include <stdbool.h>
 #include <stddef.h>
 #include <stdio.h>
@@ -114,10 +114,28 @@ static void from_sheet(void)
     expect(nilguseg_load_sheet(&core, sheet, 2, memory, 2) == 24, "without its end record it is refused with 24");
 }
 
+/* The lists 3 1, 3 1 0 and 3 0 7 9: the last comes first, and the others are equal. */
+static void compared(void)
+{
+    static const uint16_t two[2] = {3, 1}, three[3] = {3, 1, 0}, four[4] = {3, 0, 7, 9};
+    size_t from = 99;
+
+    puts("-- which of two word lists comes first");
+    expect(nilguseg_compare(two, 2, four, 4) == NILGUSEG_SECOND, "3 0 7 9 before 3 1");
+    expect(nilguseg_compare(four, 4, two, 2) == NILGUSEG_FIRST, "and given the other way round");
+    expect(nilguseg_compare(two, 2, three, 3) == NILGUSEG_EQUAL, "3 1 and 3 1 0 are equal");
+    expect(nilguseg_earlier(two, 2, four, 4, &from) == NILGUSEG_SECOND && from == 1, "the part 0 7 9 of the second");
+    expect(nilguseg_earlier(four, 1, two, 2, &from) == NILGUSEG_FIRST && from == 1, "the empty end of the first, which is 3");
+    expect(nilguseg_earlier(two, 2, three, 3, &from) == NILGUSEG_EQUAL && from == 2, "the end of 3 1");
+    expect(nilguseg_earlier(three, 3, two, 2, &from) == NILGUSEG_EQUAL && from == 3, "the end of 3 1 0");
+    expect(nilguseg_earlier(two, 0, three, 0, &from) == NILGUSEG_EQUAL && from == 0, "two empty lists");
+}
+
 int main(void)
 {
     from_words();
     from_sheet();
     by_number();
+    compared();
     return all_as_expected ? 0 : 1;
 }

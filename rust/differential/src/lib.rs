@@ -1,6 +1,7 @@
-//! The comparison of a machine with the published Rust, and with document 01 where there is no Rust.
+//! The comparison of a machine with the published Rust, and with the documents where there is no Rust.
 
 mod assembly;
+mod lists;
 pub mod machine;
 pub mod mistakes;
 pub mod model;
@@ -33,21 +34,37 @@ pub struct Effort {
     pub measured: u32,
     /// Sheets loaded and written.
     pub sheets: usize,
+    /// Pairs of word lists drawn.
+    pub lists: usize,
 }
 
-pub const FULL: Effort =
-    Effort { states: 60, stride: 1, lockstep: 40_000_000, runs: 20_000_000, measured: 1_000_000, sheets: 400_000 };
+pub const FULL: Effort = Effort {
+    states: 60,
+    stride: 1,
+    lockstep: 40_000_000,
+    runs: 20_000_000,
+    measured: 1_000_000,
+    sheets: 400_000,
+    lists: 1_000_000,
+};
 
-pub const SHORT: Effort =
-    Effort { states: 6, stride: 16, lockstep: 2_000_000, runs: 2_000_000, measured: 100_000, sheets: 40_000 };
+pub const SHORT: Effort = Effort {
+    states: 6,
+    stride: 16,
+    lockstep: 2_000_000,
+    runs: 2_000_000,
+    measured: 100_000,
+    sheets: 40_000,
+    lists: 100_000,
+};
 
 /// Enough to find a wrong machine.
 pub const CONTROL: Effort =
-    Effort { states: 4, stride: 64, lockstep: 300_000, runs: 300_000, measured: 10_000, sheets: 10_000 };
+    Effort { states: 4, stride: 64, lockstep: 300_000, runs: 300_000, measured: 10_000, sheets: 10_000, lists: 10_000 };
 
 type Part = fn(&dyn Machine, &Effort, &mut Report);
 
-const PARTS: [Part; 10] = [
+const PARTS: [Part; 11] = [
     |machine, _, report| words::decode(machine, report),
     |machine, _, report| steps::every_edge(machine, report),
     |machine, effort, report| steps::every_word(machine, effort.states, report),
@@ -57,6 +74,7 @@ const PARTS: [Part; 10] = [
     |machine, effort, report| runs::lockstep(machine, effort.lockstep, report),
     |machine, _, report| sheets::refusals(machine, report),
     |machine, effort, report| sheets::sheets(machine, effort.sheets, report),
+    |machine, effort, report| lists::lists(machine, effort.lists, report),
     |machine, _, report| words::encode(machine, report),
 ];
 

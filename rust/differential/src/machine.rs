@@ -1,4 +1,6 @@
-//! What the comparison asks of a machine. What a machine does not say for itself is the model of document 01.
+//! What the comparison asks of a machine. What a machine does not say for itself is the model of the documents.
+
+use std::cmp::Ordering;
 
 use crate::model;
 use nilguseg::{Core, Fault, Instruction, Outcome, Refusal, Run};
@@ -31,9 +33,17 @@ pub trait Machine {
     fn write_sheet(&self, core: &Core, memory: &[u16], sheet: &mut [u32]) -> Result<usize, Refusal> {
         model::write_sheet(core, memory, sheet)
     }
+
+    fn compare(&self, first: &[u16], second: &[u16]) -> Ordering {
+        model::compare(first, second)
+    }
+
+    fn earlier<'a>(&self, first: &'a [u16], second: &'a [u16]) -> &'a [u16] {
+        model::earlier(first, second)
+    }
 }
 
-/// The model of document 01 itself.
+/// The model itself.
 pub struct Model;
 
 impl Machine for Model {}
@@ -68,5 +78,13 @@ impl Machine for Library {
 
     fn write_sheet(&self, core: &Core, memory: &[u16], sheet: &mut [u32]) -> Result<usize, Refusal> {
         core.write_sheet(memory, sheet)
+    }
+
+    fn compare(&self, first: &[u16], second: &[u16]) -> Ordering {
+        nilguseg::compare(first, second)
+    }
+
+    fn earlier<'a>(&self, first: &'a [u16], second: &'a [u16]) -> &'a [u16] {
+        nilguseg::earlier(first, second)
     }
 }

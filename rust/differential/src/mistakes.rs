@@ -1,6 +1,8 @@
 //! Wrong machines, each the model with one mistake. The comparison must report every one of them; the first
 //! five are the "Mistakes met in such machines" of document 01.
 
+use std::cmp::Ordering;
+
 use crate::machine::Machine;
 use crate::model;
 use nilguseg::{kind::*, Core, Fault, Instruction, Outcome, Refusal, Run};
@@ -19,6 +21,8 @@ enum Mistake {
     LoadWords(Load<u16>),
     LoadSheet(Load<u32>),
     WriteSheet(Write),
+    Compare(fn(&[u16], &[u16]) -> Ordering),
+    Earlier(for<'a> fn(&'a [u16], &'a [u16]) -> &'a [u16]),
 }
 
 type Load<T> = fn(&mut Core, &[T], &mut [u16]) -> Result<(), Refusal>;
@@ -133,6 +137,20 @@ impl Machine for WrongMachine {
             _ => model::write_sheet(core, memory, sheet),
         }
     }
+
+    fn compare(&self, first: &[u16], second: &[u16]) -> Ordering {
+        match self.mistake {
+            Mistake::Compare(compare) => compare(first, second),
+            _ => model::compare(first, second),
+        }
+    }
+
+    fn earlier<'a>(&self, first: &'a [u16], second: &'a [u16]) -> &'a [u16] {
+        match self.mistake {
+            Mistake::Earlier(earlier) => earlier(first, second),
+            _ => model::earlier(first, second),
+        }
+    }
 }
 
 const fn step(name: &'static str, step: fn(&mut Stepped)) -> WrongMachine {
@@ -143,7 +161,7 @@ const fn other(name: &'static str, mistake: Mistake) -> WrongMachine {
     WrongMachine { name, mistake }
 }
 
-pub const WRONG_MACHINES: [WrongMachine; 40] = [
+pub const WRONG_MACHINES: [WrongMachine; 48] = [
     step("ip is not advanced on an undecodable word", |s| {
         if s.fault(10) {
             s.core.ip = s.before.ip;
@@ -398,6 +416,51 @@ pub const WRONG_MACHINES: [WrongMachine; 40] = [
                 *first = 0x3000_0000 | core.r[0] as u32;
             }
             refusal
+        }),
+    ),
+    other(
+        "the rest of the longer list is not compared",
+        Mistake::Compare(|first, second| {
+            let both = first.len().min(second.len());
+            first[..both].cmp(&second[..both])
+        }),
+    ),
+    other("a list comes before itself with zeros after it", Mistake::Compare(|first, second| first.cmp(second))),
+    other("the larger word comes first", Mistake::Compare(|first, second| model::compare(second, first))),
+    other(
+        "words are compared with a sign",
+        Mistake::Compare(|first, second| {
+            let signed = |list: Vec<u16>| list.into_iter().map(|word| word as i16).collect::<Vec<_>>();
+            let [first, second] = model::padded(first, second).map(signed);
+            first.cmp(&second)
+        }),
+    ),
+    other(
+        "the part begins one place late",
+        Mistake::Earlier(|first, second| {
+            let part = model::earlier(first, second);
+            part.get(1..).unwrap_or(part)
+        }),
+    ),
+    other(
+        "equal lists hand back the end of the second",
+        Mistake::Earlier(|first, second| match model::compare(first, second) {
+            Ordering::Equal => &second[second.len()..],
+            _ => model::earlier(first, second),
+        }),
+    ),
+    other(
+        "a list that is over hands back the other's part",
+        Mistake::Earlier(|first, second| match model::earlier(first, second) {
+            [] if model::compare(first, second).is_lt() => &second[first.len()..],
+            part => part,
+        }),
+    ),
+    other(
+        "the empty end is of the other list",
+        Mistake::Earlier(|first, second| match (model::compare(first, second), model::earlier(first, second)) {
+            (Ordering::Less, []) => &second[second.len()..],
+            (_, part) => part,
         }),
     ),
 ];

@@ -1,6 +1,8 @@
 //! The machine of document 01, written from its text alone, plainly and slowly: decoding looks a word up in
 //! a table made by encoding every operand of every row. It is the base of the wrong machines, and the measure
-//! for what the published Rust does not have: refusals and sheets.
+//! for what the published Rust does not have: refusals, sheets, and document 02's order of word lists.
+
+use std::cmp::Ordering;
 
 use nilguseg::{kind::*, Core, Fault, Instruction, Outcome, Refusal, Run};
 
@@ -424,4 +426,26 @@ fn records<'a>(core: &Core, memory: &'a [u16]) -> impl Iterator<Item = u32> + 'a
     });
     let count = memory.iter().filter(|&&word| word != 0).count() as u32;
     presets.chain(words).chain([END << 28 | count])
+}
+
+/// Both lists followed by zeros to one length.
+pub fn padded(first: &[u16], second: &[u16]) -> [Vec<u16>; 2] {
+    let length = first.len().max(second.len());
+    [first, second].map(|list| list.iter().copied().chain(std::iter::repeat(0)).take(length).collect())
+}
+
+/// The order of two word lists (document 02): that of the padded lists, word by word.
+pub fn compare(first: &[u16], second: &[u16]) -> Ordering {
+    let [first, second] = padded(first, second);
+    first.cmp(&second)
+}
+
+/// The part of the earlier list from the first place where they differ on, or the empty end of the first.
+pub fn earlier<'a>(first: &'a [u16], second: &'a [u16]) -> &'a [u16] {
+    let [left, right] = padded(first, second);
+    let Some(place) = left.iter().zip(&right).position(|(left, right)| left != right) else {
+        return &first[first.len()..];
+    };
+    let earlier = if left[place] < right[place] { first } else { second };
+    earlier.get(place..).unwrap_or(&earlier[earlier.len()..])
 }

@@ -9,6 +9,11 @@ pub const LIMIT: u8 = 2;
 pub const FAULT: u8 = 3;
 pub const REFUSED: u8 = 4;
 
+/// Which of two word lists comes first, as the header numbers it.
+pub const EQUAL: u32 = 0;
+pub const FIRST: u32 = 1;
+pub const SECOND: u32 = 2;
+
 unsafe extern "C" {
     pub safe fn nilguseg_decode(word: u16) -> u32;
     pub safe fn nilguseg_encode(kind: u8, first: u8, second: u8) -> u32;
@@ -43,6 +48,14 @@ unsafe extern "C" {
         sheet: *mut u32,
         sheet_len: usize,
     ) -> u64;
+    pub fn nilguseg_compare(first: *const u16, first_len: usize, second: *const u16, second_len: usize) -> u32;
+    pub fn nilguseg_earlier(
+        first: *const u16,
+        first_len: usize,
+        second: *const u16,
+        second_len: usize,
+        from: *mut usize,
+    ) -> u32;
 }
 
 #[cfg(test)]
@@ -52,14 +65,17 @@ mod tests {
     #[test]
     fn the_header_has_the_same_numbers() {
         let header = include_str!("../../../include/nilguseg.h");
-        for outcome in [
+        for number in [
             format!("NILGUSEG_STEPPED = {STEPPED},"),
             format!("NILGUSEG_HALTED = {HALTED},"),
             format!("NILGUSEG_LIMIT = {LIMIT},"),
             format!("NILGUSEG_FAULT = {FAULT},"),
             format!("NILGUSEG_REFUSED = {REFUSED} "),
+            format!("NILGUSEG_EQUAL = {EQUAL},"),
+            format!("NILGUSEG_FIRST = {FIRST},"),
+            format!("NILGUSEG_SECOND = {SECOND}\n"),
         ] {
-            assert!(header.contains(&outcome), "{outcome}");
+            assert!(header.contains(&number), "{number}");
         }
     }
 

@@ -15,6 +15,8 @@
 mod ffi;
 mod types;
 
+use core::cmp::Ordering;
+
 pub use types::*;
 
 /// The instruction that a word stands for, or stop 10 with the word.
@@ -73,6 +75,35 @@ impl Core {
             unsafe { ffi::nilguseg_write_sheet(self, memory.as_ptr(), memory.len(), sheet.as_mut_ptr(), sheet.len()) };
         refusal((answer >> 32) as u32)?;
         Ok(answer as u32 as usize)
+    }
+}
+
+/// Which of two word lists comes first: `Less` where the first does. They are compared at the first place where they
+/// differ, the shorter taken as followed by zeros. Lists may be sorted by it.
+pub fn compare(first: &[u16], second: &[u16]) -> Ordering {
+    // SAFETY: pointers and lengths are those of slices.
+    ordering(unsafe { ffi::nilguseg_compare(first.as_ptr(), first.len(), second.as_ptr(), second.len()) })
+}
+
+/// The part of the earlier list from the first place where they differ on: its empty end where it is over there, and
+/// the empty end of the first where they are equal.
+pub fn earlier<'a>(first: &'a [u16], second: &'a [u16]) -> &'a [u16] {
+    let mut from = 0;
+    // SAFETY: as in `compare`, and `from` is a number of its own.
+    let answer =
+        unsafe { ffi::nilguseg_earlier(first.as_ptr(), first.len(), second.as_ptr(), second.len(), &mut from) };
+    match ordering(answer) {
+        Ordering::Less | Ordering::Equal => &first[from..],
+        Ordering::Greater => &second[from..],
+    }
+}
+
+fn ordering(answer: u32) -> Ordering {
+    match answer {
+        ffi::FIRST => Ordering::Less,
+        ffi::EQUAL => Ordering::Equal,
+        ffi::SECOND => Ordering::Greater,
+        other => panic!("no comparison answers {other}"),
     }
 }
 
