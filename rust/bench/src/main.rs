@@ -5,6 +5,7 @@
 mod berth;
 
 use std::fmt::Display;
+use std::hint::black_box;
 use std::path::{Path, PathBuf};
 use std::process::Command;
 
@@ -57,6 +58,7 @@ fn main() {
         first += table.len();
     }
     sheets();
+    lists();
     match berth {
         Some(berth) => berth.print_start_to_line(),
         None => println!("\nskipped: the program berth, which is not at {path}"),
@@ -143,4 +145,33 @@ fn sheets() {
     let speed = |rounds| 65536.0 / times(rounds).least * 1e3;
     println!("\na sheet of 65,536 words, in millions of words per second of CPU time, the best of {ROUNDS}");
     println!("loading {:.1}, writing {:.1}", speed(loading), speed(writing));
+}
+
+/// Two lists that are equal: 65,536 words, and the same with as many zeros after them. There is no published Rust for
+/// it, so the library stands beside a search written with Rust's iterators.
+fn lists() {
+    let words: Vec<u16> = (0..=0xFFFF).map(|at: u16| at | 1).collect();
+    let longer = [words.clone(), vec![0; 65536]].concat();
+    let mut rounds = [Vec::new(), Vec::new()];
+    for _ in 0..ROUNDS {
+        let start = cpu_time();
+        let order = nilguseg::compare(black_box(&words), black_box(&longer));
+        let compared = cpu_time();
+        let place = differ(black_box(&words), black_box(&longer));
+        let end = cpu_time();
+        assert!(order.is_eq() && place.is_none());
+        rounds[0].push(compared - start);
+        rounds[1].push(end - compared);
+    }
+    let [library, iterators] = rounds.map(|rounds| times(rounds).least / 131072.0);
+    println!("\nequal lists of 65,536 and 131,072 words, nanoseconds of CPU time per place, the least of {ROUNDS}");
+    println!("library {library:.2}, Rust's iterators {iterators:.2}, share {:.2}", library / iterators);
+}
+
+/// The first place where two lists differ, the shorter taken as followed by zeros.
+fn differ(first: &[u16], second: &[u16]) -> Option<usize> {
+    let both = first.len().min(second.len());
+    let rest = if first.len() > both { &first[both..] } else { &second[both..] };
+    let place = first.iter().zip(second).position(|(first, second)| first != second);
+    place.or_else(|| rest.iter().position(|word| *word != 0).map(|place| both + place))
 }
