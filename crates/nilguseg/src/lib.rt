@@ -103,7 +103,7 @@ pub extern "C" fn nilguseg_compare(first: &[u16], second: &[u16]) -> u32
 
 // The part of the earlier list from the first place where they differ on.
 #[no_mangle]
-pub extern "C" fn nilguseg_earlier(first: &[u16], second: &[u16], from: &mut usize) -> u32
+pub extern "C" fn nilguseg_earlier<'a>(first: &'a [u16], second: &'a [u16], from: &mut usize) -> u32
     ensures { λ r. ⌜ call r ((now (from .exit) ∷ []) ∷ []) ≡ partCall (partOf (now (first .entry)) (now (second .entry))) ⌝ }
 {
     let part = earlier_part(first, second);

@@ -1,15 +1,14 @@
 -- Laws of the comparison, one for each way through the code: the premises are what the way's tests and callees tell.
-use Prim.Native.Nat.{ℕ, zero, suc, _+_, _*_, _-_, _<_, _≤_, min, max}
+use Prim.Native.Nat.{ℕ, suc, _+_, _*_, _-_, _<_, _≤_, min, max}
 use native.Mathlib.Nat.{sub-zero, sub-eq-zero-of-le, add-comm, le-of-eq, le-of-lt}
 use mathlib.Core.List.{List}
-use mathlib.Core.Path.{_≡_, sym, _∙_}
+use mathlib.Core.Path.{_≡_, refl, sym, ap, _∙_}
 use native.Mathlib.Omega.{arith}
 use lib.ListN.{length, take, drop, length-drop, List·getD-eq-default}
 use lib.Seq.{take-all}
 use denote.Ref.{RefT}
 use borrow.Author.Tests.{lt-ltb, le-ltb, eq-eqb, ne-eqb}
 use Rattle.order.specs.declared.Order.{Order}
-use Rattle.order.specs.declared.Part.{Part}
 use Rattle.order.specs.Order.{wordIn, differFrom, placeOf, byWords, orderOf, earlierOf, partOf, Slice, sliceOf, fromPlace, earlierPart}
 
 pub past-end : (words : List ℕ) (k : ℕ) → length words ≤ k → 0 ≡ wordIn words k
@@ -62,15 +61,10 @@ module _ {a b : List ℕ} where
           let on : differFrom (end - at) at a b ≡ differFrom (end - (at + 1)) (at + 1) a b = rw (left, ← e, ← d, eq-eqb v w q) in
           record { within = omega arith; place = sym on ∙ s .place }
 
--- the order and the part at that place
-module _ (a b : List ℕ) {at : ℕ} {o : Order} (p : at ≡ placeOf a b) (e : o ≡ byWords (wordIn a at) (wordIn b at)) where
-  pub order-told : o ≡ orderOf a b
-  unfolding orderOf
-  order-told = rw (← p) e
-
-  pub part-told : {x : Order} {from : ℕ} → o ≡ x → from ≡ min at (length (earlierOf x a b)) → record { order = x; from = from } ≡ partOf a b
-  unfolding partOf
-  part-told y f = rw (← order-told, ← p, y, f)
+-- the order at that place
+pub order-told : (a b : List ℕ) {at : ℕ} {o : Order} → at ≡ placeOf a b → o ≡ byWords (wordIn a at) (wordIn b at) → o ≡ orderOf a b
+unfolding orderOf
+order-told a b p e = rw (← p) e
 
 -- what the list from a place on is, by its pointer and its words
 pub tail-told : (s r : RefT (List ℕ)) {k : ℕ} (n : ℕ) → k ≡ min n (length (s .now)) → r .ptr ≡ (s .ptr .0, k * 2 + s .ptr .1)
@@ -81,8 +75,26 @@ tail-told s r {k} n q p w =
     take-all (length (s .now) - k) (drop k (s .now)) (le-of-eq (length-drop k (s .now))) in
     rw (p, w, all, add-comm (k * 2) (s .ptr .1), q)
 
-pub earlier-told : (x : Order) (a b : RefT (List ℕ)) {at : ℕ} {o : Order} {s : Slice} → at ≡ placeOf (a .now) (b .now)
-    → o ≡ byWords (wordIn (a .now) at) (wordIn (b .now) at) → o ≡ x
-    → s ≡ fromPlace (earlierOf x (sliceOf a) (sliceOf b)) (min at (length (earlierOf x (a .now) (b .now)))) → s ≡ earlierPart (sliceOf a) (sliceOf b)
-unfolding sliceOf earlierPart partOf
-earlier-told x a b p e y t = rw (← order-told (a .now) (b .now) p e, ← p, y) t
+-- the earlier list, by the order; its words are those of the earlier
+pub list-told : (x : Order) (a b : Slice) {o : Order} → o ≡ x → earlierOf x a b ≡ earlierOf o a b
+list-told x a b e = rw e
+
+earlier-words : (o : Order) (a b : Slice) → earlierOf o a b .words ≡ earlierOf o (a .words) (b .words)
+earlier-words Order.First a b = refl
+earlier-words Order.Second a b = refl
+earlier-words Order.Equal a b = refl
+
+-- the part, of the list l
+module _ (a b l : RefT (List ℕ)) {at : ℕ} {o : Order} (p : at ≡ placeOf (a .now) (b .now)) (e : o ≡ byWords (wordIn (a .now) at) (wordIn (b .now) at))
+    (is : sliceOf l ≡ earlierOf o (sliceOf a) (sliceOf b)) where
+  pub part-told : {from : ℕ} → from ≡ min at (length (l .now)) → record { order = o; from = from } ≡ partOf (a .now) (b .now)
+  unfolding partOf sliceOf
+  part-told f =
+      let words : l .now ≡ earlierOf o (a .now) (b .now) = ap (λ (s : Slice). s .words) is ∙ earlier-words o (sliceOf a) (sliceOf b) in
+      rw (f, words, p, order-told (a .now) (b .now) p e)
+
+  pub earlier-told : {s : Slice} → s ≡ fromPlace (sliceOf l) (min at (length (l .now))) → s ≡ earlierPart (sliceOf a) (sliceOf b)
+  unfolding earlierPart sliceOf
+  earlier-told t =
+      let part : record { order = o; from = min at (length (l .now)) } ≡ partOf (a .now) (b .now) = part-told refl in
+      rw (← part, ← is) t

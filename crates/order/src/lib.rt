@@ -2,7 +2,7 @@
 ghost use mathlib.Core.Path.{_≡_};
 ghost use Prim.Native.Nat.{min, max};
 ghost use lib.ListN.{length};
-ghost use Rattle.order.specs.Order.{wordIn, placeOf, byWords, orderOf, partOf, sliceOf, fromPlace, earlierPart};
+ghost use Rattle.order.specs.Order.{wordIn, placeOf, byWords, orderOf, earlierOf, partOf, sliceOf, fromPlace, earlierPart};
 
 // Which comes first; equal lists differ in trailing zeros only.
 pub enum Order {
@@ -80,6 +80,17 @@ fn tail(words: &[u16], at: usize) -> &[u16]
     &words[from..]
 }
 
+// The earlier of the two; the first where they are equal.
+fn earlier_list<'a>(order: Order, first: &'a [u16], second: &'a [u16]) -> &'a [u16]
+    ensures { λ r. ⌜ sliceOf r ≡ earlierOf order (sliceOf (first .entry)) (sliceOf (second .entry)) ⌝ }
+{
+    match order {
+        Order::First => first,
+        Order::Second => second,
+        Order::Equal => first,
+    }
+}
+
 // Which of the two comes first.
 pub fn compare(first: &[u16], second: &[u16]) -> Order
     ensures { λ r. ⌜ r ≡ orderOf (now (first .entry)) (now (second .entry)) ⌝ }
@@ -92,30 +103,16 @@ pub fn earlier<'a>(first: &'a [u16], second: &'a [u16]) -> &'a [u16]
     ensures { λ r. ⌜ sliceOf r ≡ earlierPart (sliceOf (first .entry)) (sliceOf (second .entry)) ⌝ }
 {
     let at = place(first, second);
-    match order_at(first, second, at) {
-        Order::First => tail(first, at),
-        Order::Second => tail(second, at),
-        Order::Equal => tail(first, at),
-    }
+    let order = order_at(first, second, at);
+    tail(earlier_list(order, first, second), at)
 }
 
 // The same part in numbers, for a host.
-pub fn earlier_part(first: &[u16], second: &[u16]) -> Part
+pub fn earlier_part<'a>(first: &'a [u16], second: &'a [u16]) -> Part
     ensures { λ r. ⌜ r ≡ partOf (now (first .entry)) (now (second .entry)) ⌝ }
 {
     let at = place(first, second);
-    match order_at(first, second, at) {
-        Order::First => Part {
-            order: Order::First,
-            from: within(first, at),
-        },
-        Order::Second => Part {
-            order: Order::Second,
-            from: within(second, at),
-        },
-        Order::Equal => Part {
-            order: Order::Equal,
-            from: within(first, at),
-        },
-    }
+    let order = order_at(first, second, at);
+    let from = within(earlier_list(order, first, second), at);
+    Part { order, from }
 }

@@ -1,13 +1,13 @@
 -- The claims of the order of word lists.
 use Prim.Native.Nat.{ℕ, zero, suc, _-_, _<_, _≤_, min}
-use mathlib.Core.Bool.{Bool, true, false}
+use mathlib.Core.Bool.{true}
 use mathlib.Core.List.{List, [], _∷_, _++_, append-nil}
 use mathlib.Core.Logic.{⊎-elim, inl, inr}
 use mathlib.Core.Path.{_≡_, refl, sym, ap, subst, _∙_}
 use native.Mathlib.Omega.{arith}
 use native.Mathlib.Nat.{le-refl, sub-self, le-of-lt}
 use lib.Dec.{leb, ltb}
-use lib.ListN.{length, drop, getD, replicate, length-append, length-replicate, length-drop}
+use lib.ListN.{length, drop, replicate, length-append, length-replicate, length-drop}
 use lib.Seq.{ext-getD, drop-cons}
 use borrow.Author.Tests.{leb-true, leb-false, ltb-true, ltb-false}
 use Rattle.emulator.specs.Memory.{refusedLength}

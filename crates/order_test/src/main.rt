@@ -31,7 +31,7 @@ fn sign(order: Order) {
 }
 
 // The order of two lists, and from which place on the part of the earlier one is.
-fn compare(first: &[u16], second: &[u16]) {
+fn compare<'a>(first: &'a [u16], second: &'a [u16]) {
     sign(order::compare(first, second));
     let part = order::earlier_part(first, second);
     number(part.from as u64);

@@ -1,6 +1,5 @@
--- `order::earlier` meets its contract: one law for all three ways.
+-- `order::earlier` meets its contract.
 use borrow.Author.Needs.{needs}
-use Rattle.order.specs.declared.Order.{Order}
 use Rattle.order.proofs.Laws.{earlier-told}
 use Rattle.order.proofs.earlier.Statement.{statement}
 use Rattle.order.proofs.earlier.Tie as tie
@@ -11,12 +10,6 @@ earlier-spec =
     (tie.spec
     (λ c κs. search needs)
     (λ c κs. search needs)
-    (λ c. search needs)
     (λ c κs. search needs)
-    (λ c. search needs)
     (λ c κs. search needs)
-    (λ c. search needs)
-    (λ c κs. search needs)
-    (λ c. search (earlier-told Order.First))
-    (λ c. search (earlier-told Order.Second))
-    (λ c. search (earlier-told Order.Equal)))
+    (λ c. search earlier-told))

@@ -1,4 +1,4 @@
--- `order::earlier_part` meets its contract: one law for all three ways.
+-- `order::earlier_part` meets its contract.
 use borrow.Author.Needs.{needs}
 use Rattle.order.proofs.Laws.{part-told}
 use Rattle.order.proofs.earlier_part.Statement.{statement}
@@ -10,12 +10,6 @@ earlier-part-spec =
     (tie.spec
     (λ c κs. search needs)
     (λ c κs. search needs)
-    (λ c. search needs)
     (λ c κs. search needs)
-    (λ c. search needs)
     (λ c κs. search needs)
-    (λ c. search needs)
-    (λ c κs. search needs)
-    (λ c. search part-told)
-    (λ c. search part-told)
     (λ c. search part-told))
