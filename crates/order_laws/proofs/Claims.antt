@@ -16,7 +16,7 @@ use Rattle.order.specs.declared.Order.{Order}
 use Rattle.order.specs.Order.{wordIn, placeOf, orderOf, earlierOf, partOf, Slice, fromPlace, earlierPart}
 use Rattle.sheet.specs.Load.{loadWordsOf}
 use Rattle.order_laws.specs.Claims.{Before, Equal, exchanged, OneOf, Total, Transitive, TrailingZeros, Equality, LoadAlike, Smaller, FirstDifference}
-use Rattle.order_laws.proofs.Compared.{by-words, same-before, end-place, same-all, Compared, compared, decided, turned, replaced, joined, all-same}
+use Rattle.order_laws.proofs.Compared.{by-words, Same, same-before, end-place, same-all, Compared, compared, decided, turned, replaced, joined, all-same}
 
 -- total
 exchange : (a b : List ℕ) → orderOf b a ≡ exchanged (orderOf a b)
@@ -46,28 +46,27 @@ total = record { one-of = λ a b. one-of (orderOf a b) refl (exchange a b); exch
 why : (a b : List ℕ) {o : Order} → orderOf a b ≡ o → Compared a b o
 why a b e = subst (Compared a b) e (compared a b)
 
-same : (a b : List ℕ) → Equal a b → (k : ℕ) → wordIn a k ≡ wordIn b k
+same : (a b : List ℕ) → Equal a b → Same a b
 same a b e = all-same (why a b e)
 
 before : (a b c : List ℕ) → Before a b → Before b c → Before a c
 before a b c e f = decided (joined (why a b e) (why b c f))
 
-alike : (a b c : List ℕ) → Equal a b → orderOf a c ≡ orderOf b c
-alike a b c e = sym (decided (replaced (same a b e) (compared a c)))
+alike-first : (a b c : List ℕ) → Equal a b → orderOf a c ≡ orderOf b c
+alike-first a b c e = sym (decided (replaced (same a b e) (compared a c)))
 
--- and against a third that stands first
-alike-after : (a b c : List ℕ) → Equal b c → orderOf a b ≡ orderOf a c
-alike-after a b c e = exchange b a ∙ (ap exchanged (alike b c a e) ∙ sym (exchange c a))
+alike-second : (a b c : List ℕ) → Equal a b → orderOf c a ≡ orderOf c b
+alike-second a b c e = exchange a c ∙ (ap exchanged (alike-first a b c e) ∙ sym (exchange b c))
 
 pub transitive : Transitive
 transitive =
     record {
       before = before;
-      equal = λ a b c e f. alike a b c e ∙ f;
+      equal = λ a b c e f. alike-first a b c e ∙ f;
       before-or-equal = λ a b c x y.
           ⊎-elim
-          (λ e. ⊎-elim (λ f. inl (before a b c e f)) (λ f. inl (sym (alike-after a b c f) ∙ e)) y)
-          (λ e. ⊎-elim (λ f. inl (alike a b c e ∙ f)) (λ f. inr (alike a b c e ∙ f)) y)
+          (λ e. ⊎-elim (λ f. inl (before a b c e f)) (λ f. inl (sym (alike-second b c a f) ∙ e)) y)
+          (λ e. ⊎-elim (λ f. inl (alike-first a b c e ∙ f)) (λ f. inr (alike-first a b c e ∙ f)) y)
           x;
     }
 
@@ -89,7 +88,7 @@ filled n a = a ++ replicate (n - length a) 0
 length-filled : (n : ℕ) (a : List ℕ) → length a ≤ n → length (filled n a) ≡ n
 length-filled n a l = simp (length-append, length-replicate) (omega arith)
 
-module _ (a b : List ℕ) (e : (k : ℕ) → wordIn a k ≡ wordIn b k) where
+module _ (a b : List ℕ) (e : Same a b) where
   filled-alike : (n : ℕ) → length a ≤ n → length b ≤ n → filled n a ≡ filled n b
   filled-alike n l m =
       ext-getD 0 (filled n a) (filled n b) (length-filled n a l ∙ sym (length-filled n b m))
@@ -126,7 +125,14 @@ zeros-equal a b z =
     decided (Compared.equal (λ k. rw (z .first, z .second) (unseen (z .common) (z .first-zeros) k ∙ sym (unseen (z .common) (z .second-zeros) k))))
 
 pub equality : Equality
-equality = record { reflexive = λ a. decided (Compared.equal (λ k. refl)); alike = alike; zeros-only = zeros-only; zeros-equal = zeros-equal }
+equality =
+    record {
+      reflexive = λ a. decided (Compared.equal (λ k. refl));
+      alike-first = alike-first;
+      alike-second = alike-second;
+      zeros-only = zeros-only;
+      zeros-equal = zeros-equal;
+    }
 
 -- loading
 pub load-alike : LoadAlike

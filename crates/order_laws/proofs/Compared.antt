@@ -1,9 +1,9 @@
--- Why two lists compare as they do: a first place where they differ, or none. What is claimed of the order follows from this alone.
+-- Why two lists compare as they do: a first place where they differ, or none. That the order is total and transitive follows from this alone.
 use Prim.Native.Nat.{ℕ, zero, suc, _+_, _<_, _≤_, max}
 use mathlib.Core.List.{List}
 use mathlib.Core.Path.{_≡_, refl, sym, _∙_}
-use native.Mathlib.Omega.{arith}
 use mathlib.Core.Logic.{⊎-elim}
+use native.Mathlib.Omega.{arith}
 use native.Mathlib.Nat.{zero-add, eq-or-lt-of-le, le-antisymm}
 use lib.Dec.{ltb, eqb}
 use lib.ListN.{length}
@@ -21,14 +21,17 @@ by-words P v w f g h =
     if-elim P (ltb v w) (λ t. f (ltb-true _ _ t))
     (λ t. if-elim P (ltb w v) (λ u. g (ltb-true _ _ u)) (λ u. h (le-antisymm (ltb-false _ _ u) (ltb-false _ _ t))))
 
--- the words agree at every place below p
+-- the words agree at every place, or at every place below p
+abbrev pub Same : List ℕ → List ℕ → Type 0
+Same a b = (k : ℕ) → wordIn a k ≡ wordIn b k
+
 abbrev pub SameBelow : List ℕ → List ℕ → ℕ → Type 0
 SameBelow a b p = (k : ℕ) → k < p → wordIn a k ≡ wordIn b k
 
 pub data Compared (a b : List ℕ) : Order → Type 0 where
   first : (p : ℕ) → SameBelow a b p → wordIn a p < wordIn b p → Compared a b Order.First
   second : (p : ℕ) → SameBelow a b p → wordIn b p < wordIn a p → Compared a b Order.Second
-  equal : ((k : ℕ) → wordIn a k ≡ wordIn b k) → Compared a b Order.Equal
+  equal : Same a b → Compared a b Order.Equal
 
 module _ (a b : List ℕ) where
   -- the places from k on that the search passes over agree
@@ -57,7 +60,7 @@ module _ (a b : List ℕ) where
   unfolding placeOf
   end-place s = passed-all (max (length a) (length b)) 0 s ∙ zero-add _
 
-  pub same-all : wordIn a (placeOf a b) ≡ wordIn b (placeOf a b) → (k : ℕ) → wordIn a k ≡ wordIn b k
+  pub same-all : wordIn a (placeOf a b) ≡ wordIn b (placeOf a b) → Same a b
   same-all s k =
       let end = end-place s in
       by-test (ltb k (placeOf a b))
@@ -73,9 +76,7 @@ module _ (a b : List ℕ) where
 
 -- where two places stand to each other
 three-ways : {A : Type 0} (p q : ℕ) → (p < q → A) → (p ≡ q → A) → (q < p → A) → A
-three-ways p q f g h =
-    by-test (ltb p q) (λ t. f (ltb-true _ _ t))
-    (λ t. by-test (ltb q p) (λ u. h (ltb-true _ _ u)) (λ u. g (le-antisymm (ltb-false _ _ u) (ltb-false _ _ t))))
+three-ways {A} p q f g h = by-words (λ (o : Order). A) p q f h g
 
 -- two lists compare in one way only
 clash : (a b : List ℕ) (p q : ℕ) → SameBelow a b p → wordIn a p < wordIn b p → SameBelow a b q → wordIn b q < wordIn a q → ⊥
@@ -106,7 +107,7 @@ turned (second p f l) = Compared.first p (λ k h. sym (f k h)) l
 turned (equal f) = Compared.equal (λ k. sym (f k))
 
 -- a list for the first that has the same words
-pub replaced : {a b c : List ℕ} {o : Order} → ((k : ℕ) → wordIn a k ≡ wordIn b k) → Compared a c o → Compared b c o
+pub replaced : {a b c : List ℕ} {o : Order} → Same a b → Compared a c o → Compared b c o
 replaced e (first p f l) = Compared.first p (λ k h. sym (e k) ∙ f k h) (rw (← e p) l)
 replaced e (second p f l) = Compared.second p (λ k h. sym (e k) ∙ f k h) (rw (← e p) l)
 replaced e (equal f) = Compared.equal (λ k. sym (e k) ∙ f k)
@@ -118,5 +119,5 @@ joined (first p f l) (first q g m) =
     (λ e. Compared.first p (λ k h. f k h ∙ g k (omega arith)) (let n = rw (← e) at m in omega arith))
     (λ t. Compared.first q (λ k h. f k (omega arith) ∙ g k h) (rw (f q t) m))
 
-pub all-same : {a b : List ℕ} → Compared a b Order.Equal → (k : ℕ) → wordIn a k ≡ wordIn b k
+pub all-same : {a b : List ℕ} → Compared a b Order.Equal → Same a b
 all-same (equal f) = f

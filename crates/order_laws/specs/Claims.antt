@@ -49,8 +49,9 @@ pub record TrailingZeros (a b : List ℕ) : Type 0 where
 
 pub record Equality : Type 0 where
   pub reflexive : (a : List ℕ) → Equal a a
-  -- equal lists answer alike against every third
-  pub alike : (a b c : List ℕ) → Equal a b → orderOf a c ≡ orderOf b c
+  -- equal lists answer alike against every third, before it and after it
+  pub alike-first : (a b c : List ℕ) → Equal a b → orderOf a c ≡ orderOf b c
+  pub alike-second : (a b c : List ℕ) → Equal a b → orderOf c a ≡ orderOf c b
   -- they are exactly those that differ in trailing zeros only
   pub zeros-only : (a b : List ℕ) → Equal a b → TrailingZeros a b
   pub zeros-equal : (a b : List ℕ) → TrailingZeros a b → Equal a b
