@@ -161,7 +161,8 @@ uint32_t nilguseg_compare(const uint16_t *first, size_t first_len, const uint16_
 
 /* The part of the earlier list from that place on. Answers what nilguseg_compare does, and sets *from to the place in the
  * earlier list from which on the part is: in the second for NILGUSEG_SECOND, else in the first.
- * Where the earlier list is over at that place, and where both are equal, *from is its length: the part is its empty end. */
+ * Where the earlier list is over at that place, *from is its length, and where both are equal it is first_len: the part is
+ * an empty end. */
 uint32_t nilguseg_earlier(const uint16_t *first, size_t first_len, const uint16_t *second, size_t second_len,
                           size_t *from);
 

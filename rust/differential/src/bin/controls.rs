@@ -16,7 +16,7 @@ fn report(machine: &dyn Machine) -> Report {
 fn main() -> ExitCode {
     reference::silence_expected_panics();
     let model = report(&Model);
-    println!("the model of document 01: {} disagreements", model.disagreements);
+    println!("the model: {} disagreements", model.disagreements);
     let mut reported = 0;
     for machine in &WRONG_MACHINES {
         match report(machine).first {
