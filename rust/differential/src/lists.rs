@@ -51,12 +51,13 @@ fn compare(machine: &dyn Machine, first: &[u16], second: &[u16], counts: &mut Co
     counts.orders[(expected as i8 + 1) as usize] += 1;
     counts.over += (expected != Ordering::Equal && expected_part.is_empty()) as u64;
     counts.empty += (first.is_empty() || second.is_empty()) as u64;
-    let lengths = format!("lists of {} and {} words", first.len(), second.len());
+    let lengths = || format!("lists of {} and {} words", first.len(), second.len());
     if order != expected {
-        report.disagree("comparing lists", || format!("{lengths} give {order:?}, expected {expected:?}"));
+        report.disagree("comparing lists", || format!("{} give {order:?}, expected {expected:?}", lengths()));
     }
     if part.as_ptr_range() != expected_part.as_ptr_range() {
-        report.disagree("the earlier list", || format!("{lengths} give {part:04x?}, expected {expected_part:04x?}"));
+        report
+            .disagree("the earlier list", || format!("{} give {part:04x?}, expected {expected_part:04x?}", lengths()));
     }
 }
 

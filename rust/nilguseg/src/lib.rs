@@ -79,7 +79,7 @@ impl Core {
 }
 
 /// Which of two word lists comes first: `Less` where the first does. They are compared at the first place where they
-/// differ, the shorter taken as followed by zeros. Lists may be sorted by it.
+/// differ, the shorter taken as followed by zeros. The order is total and transitive, so lists may be sorted by it.
 pub fn compare(first: &[u16], second: &[u16]) -> Ordering {
     // SAFETY: pointers and lengths are those of slices.
     ordering(unsafe { ffi::nilguseg_compare(first.as_ptr(), first.len(), second.as_ptr(), second.len()) })

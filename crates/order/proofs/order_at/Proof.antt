@@ -8,8 +8,7 @@ pub order-at-spec : {M : Type 1} → statement M
 order-at-spec =
     tie.close
     (tie.spec
-    (λ c κs. search needs)
-    (λ c κs. search needs)
+    (λ c κs. search needs) (λ c κs. search needs)
     (λ c. search first-smaller)
     (λ c. search second-smaller)
     (λ c. search same-words))
