@@ -15,9 +15,9 @@ fn word(random: &mut Random) -> u16 {
     }
 }
 
-/// Two lists with a common part of up to `most` words, each as it is, cut, with zeros or words after it, or with a word changed.
-fn pair(random: &mut Random, most: usize) -> [Vec<u16>; 2] {
-    let common: Vec<u16> = (0..random.below(most + 1)).map(|_| word(random)).collect();
+/// Two lists with a common part of `length` words, each as it is, cut, with zeros or a word after it, or with a word changed.
+fn pair(random: &mut Random, length: usize) -> [Vec<u16>; 2] {
+    let common: Vec<u16> = (0..length).map(|_| word(random)).collect();
     [(); 2].map(|()| {
         let mut list = common.clone();
         match random.below(6) {
@@ -35,12 +35,13 @@ fn pair(random: &mut Random, most: usize) -> [Vec<u16>; 2] {
     })
 }
 
-/// What is counted: orders, parts that are empty though the lists differ, and lists that are empty.
+/// What is counted: orders, parts that are empty though the lists differ, lists that are empty, and lists of more than 65,536 words.
 #[derive(Default)]
 struct Counts {
     orders: [u64; 3],
     over: u64,
     empty: u64,
+    long: u64,
 }
 
 fn compare(machine: &dyn Machine, first: &[u16], second: &[u16], counts: &mut Counts, report: &mut Report) {
@@ -51,6 +52,7 @@ fn compare(machine: &dyn Machine, first: &[u16], second: &[u16], counts: &mut Co
     counts.orders[(expected as i8 + 1) as usize] += 1;
     counts.over += (expected != Ordering::Equal && expected_part.is_empty()) as u64;
     counts.empty += (first.is_empty() || second.is_empty()) as u64;
+    counts.long += (first.len().max(second.len()) > 65536) as u64;
     let lengths = || format!("lists of {} and {} words", first.len(), second.len());
     if order != expected {
         report.disagree("comparing lists", || format!("{} give {order:?}, expected {expected:?}", lengths()));
@@ -61,17 +63,17 @@ fn compare(machine: &dyn Machine, first: &[u16], second: &[u16], counts: &mut Co
     }
 }
 
-/// `cases` pairs of lists: most with a common part of a few words, some with one of hundreds, few of more than 65,536.
+/// `cases` pairs of lists: most with a common part of a few words, some with one of hundreds, few with one of about 65,536.
 pub fn lists(machine: &dyn Machine, cases: usize, report: &mut Report) {
     let mut random = Random::new(9);
     let mut counts = Counts::default();
     for case in 0..cases {
-        let common = match case {
-            _ if case % 10_000 == 0 => 70_000,
-            _ if case % 100 == 0 => 700,
-            _ => 7,
+        let length = match case {
+            _ if case % 1_000 == 0 => 65_530 + random.below(12),
+            _ if case % 100 == 0 => random.below(700),
+            _ => random.below(8),
         };
-        let [first, second] = pair(&mut random, common);
+        let [first, second] = pair(&mut random, length);
         compare(machine, &first, &second, &mut counts, report);
         compare(machine, &second, &first, &mut counts, report);
     }
@@ -80,4 +82,5 @@ pub fn lists(machine: &dyn Machine, cases: usize, report: &mut Report) {
     report.others.push(("of them are equal", equal));
     report.others.push(("of them differ where the earlier list is over", counts.over));
     report.others.push(("of them have an empty list", counts.empty));
+    report.others.push(("of them have one of more than 65,536 words", counts.long));
 }
