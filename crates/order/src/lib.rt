@@ -25,6 +25,7 @@ fn word_in(words: &[u16], at: usize) -> u16
     if at < words.len() { words[at] } else { 0 }
 }
 
+// The length of the longer.
 fn longer(first: &[u16], second: &[u16]) -> usize
     ensures { λ r. ⌜ r ≡ max (length (now (first .entry))) (length (now (second .entry))) ⌝ }
 {
