@@ -1,11 +1,17 @@
--- A list that a loop fills with 0, one place after another.
-use Prim.Native.Nat.{ℕ, _+_, _<_, _≤_}
+-- A list of zeros, and one that a loop fills with 0, one place after another.
+use Prim.Native.Nat.{ℕ, zero, suc, _+_, _<_, _≤_}
 use mathlib.Core.List.{List, _++_, append-nil}
 use mathlib.Core.Path.{_≡_, refl, _∙_}
 use native.Mathlib.Omega.{arith}
-use lib.ListN.{length, drop, replicate, set, length-set}
+use lib.ListN.{length, getD, drop, replicate, set, length-set}
 use lib.Seq.{drop-length}
 use borrow.Author.Fill.{fill-none, fill-more}
+
+-- zeros have a 0 at every place, and there is one past their end
+pub getD-zeros : (n k : ℕ) → _≡_ {A = ℕ} (getD (replicate n 0) k 0) 0
+getD-zeros zero k = refl
+getD-zeros (suc n) zero = refl
+getD-zeros (suc n) (suc k) = getD-zeros n k
 
 -- the loop's invariant: the places before i are 0, the others as they were
 pub record Filling (before now : List ℕ) (i : ℕ) : Type 0 where

@@ -12,6 +12,7 @@ use lib.Seq.{ext-getD, drop-cons}
 use borrow.Author.Tests.{leb-true, leb-false, ltb-true, ltb-false}
 use Rattle.emulator.specs.Memory.{refusedLength}
 use Rattle.emulator.proofs.Cases.{by-test}
+use Rattle.emulator.proofs.Fill.{getD-zeros}
 use Rattle.order.specs.declared.Order.{Order}
 use Rattle.order.specs.Order.{wordIn, placeOf, orderOf, earlierOf, partOf, Slice, fromPlace, earlierPart}
 use Rattle.sheet.specs.Load.{loadWordsOf}
@@ -71,13 +72,8 @@ transitive =
     }
 
 -- zeros after a list change no word of it
-zeros : (n k : ℕ) → wordIn (replicate n 0) k ≡ 0
-zeros zero k = refl
-zeros (suc n) zero = refl
-zeros (suc n) (suc k) = zeros n k
-
 unseen : (a : List ℕ) (n k : ℕ) → wordIn (a ++ replicate n 0) k ≡ wordIn a k
-unseen [] n k = zeros n k
+unseen [] n k = getD-zeros n k
 unseen (v ∷ a) n zero = refl
 unseen (v ∷ a) n (suc k) = unseen a n k
 

@@ -18,6 +18,7 @@ use Rattle.emulator.specs.declared.core.Core.{Core}
 use Rattle.emulator.specs.declared.memory.Read.{Read}
 use Rattle.emulator.specs.declared.memory.Write.{Write}
 use Rattle.emulator.proofs.Cases.{if-both}
+use Rattle.emulator.proofs.Fill.{getD-zeros}
 use Rattle.emulator.proofs.Marks.{written-cases, same-or-not, read-sets, write-sets, written-read}
 use Rattle.emulator.proofs.Laws.{accepted-marked}
 use Rattle.emulator.proofs.Runs.{accepted-run}
@@ -196,11 +197,6 @@ module _ {M N : List ℕ} (F : List ℕ) (agree : (a : ℕ) → wasRead (getD F 
         (twin-cycle c h (λ a b. low a (next-keeps (runFrom plan k (n + 1)) n (run-keeps plan k (n + 1)) (cycleOf plan c m) .read a b)))
         low)
         below
-
-getD-zeros : (n a : ℕ) → _≡_ {A = ℕ} (getD (replicate n 0) a 0) 0
-getD-zeros zero a = refl
-getD-zeros (suc n) zero = refl
-getD-zeros (suc n) (suc a) = getD-zeros n a
 
 agreement-of : (plan : Core → ℕ → Plan) → AgreementOf plan
 agreement-of plan c limit m m′ ok ok′ sizes agree =
