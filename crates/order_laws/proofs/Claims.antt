@@ -1,6 +1,6 @@
 -- The claims of the order of word lists.
 use Prim.Native.Nat.{ℕ, zero, suc, _-_, _<_, _≤_, min}
-use mathlib.Core.Bool.{true}
+use mathlib.Core.Bool.{true, false}
 use mathlib.Core.List.{List, [], _∷_, _++_, append-nil}
 use mathlib.Core.Logic.{⊎-elim, inl, inr}
 use mathlib.Core.Path.{_≡_, refl, sym, ap, subst, _∙_}
@@ -15,6 +15,7 @@ use Rattle.emulator.proofs.Cases.{by-test}
 use Rattle.emulator.proofs.Fill.{getD-zeros}
 use Rattle.order.specs.declared.Order.{Order}
 use Rattle.order.specs.Order.{wordIn, placeOf, orderOf, earlierOf, partOf, Slice, fromPlace, earlierPart}
+use Rattle.sheet.specs.declared.load.Loaded.{Loaded}
 use Rattle.sheet.specs.Load.{loadWordsOf}
 use Rattle.order_laws.specs.Claims.{Before, Equal, exchanged, OneOf, Total, Transitive, TrailingZeros, Equality, LoadAlike, Smaller, FirstDifference}
 use Rattle.order_laws.proofs.Compared.{by-words, Same, same-before, end-place, same-all, Compared, compared, decided, turned, replaced, joined, all-same}
@@ -77,23 +78,23 @@ unseen [] n k = getD-zeros n k
 unseen (v ∷ a) n zero = refl
 unseen (v ∷ a) n (suc k) = unseen a n k
 
--- a list filled up with zeros to n words
-abbrev filled : ℕ → List ℕ → List ℕ
-filled n a = a ++ replicate (n - length a) 0
+-- a list padded with zeros to n words
+abbrev padded : ℕ → List ℕ → List ℕ
+padded n a = a ++ replicate (n - length a) 0
 
-length-filled : (n : ℕ) (a : List ℕ) → length a ≤ n → length (filled n a) ≡ n
-length-filled n a l = simp (length-append, length-replicate) (omega arith)
+length-padded : (n : ℕ) (a : List ℕ) → length a ≤ n → length (padded n a) ≡ n
+length-padded n a l = simp (length-append, length-replicate) (omega arith)
 
 module _ (a b : List ℕ) (e : Same a b) where
-  filled-alike : (n : ℕ) → length a ≤ n → length b ≤ n → filled n a ≡ filled n b
-  filled-alike n l m =
-      ext-getD 0 (filled n a) (filled n b) (length-filled n a l ∙ sym (length-filled n b m))
+  padded-alike : (n : ℕ) → length a ≤ n → length b ≤ n → padded n a ≡ padded n b
+  padded-alike n l m =
+      ext-getD 0 (padded n a) (padded n b) (length-padded n a l ∙ sym (length-padded n b m))
       (λ k h. unseen a (n - length a) k ∙ (e k ∙ sym (unseen b (n - length b) k)))
 
-  longer : length a ≤ length b → b ≡ filled (length b) a
+  longer : length a ≤ length b → b ≡ padded (length b) a
   longer l =
-      let itself : filled (length b) b ≡ b = rw (sub-self (length b)) (append-nil b) in
-      sym (filled-alike (length b) l (le-refl (length b)) ∙ itself)
+      let itself : padded (length b) b ≡ b = rw (sub-self (length b)) (append-nil b) in
+      sym (padded-alike (length b) l (le-refl (length b)) ∙ itself)
 
 zeros-only : (a b : List ℕ) → Equal a b → TrailingZeros a b
 zeros-only a b q =
@@ -131,13 +132,17 @@ equality =
     }
 
 -- loading
+too-long : (l mem : List ℕ) → refusedLength (length mem) ≡ false → ltb (length mem) (length l) ≡ true → loadWordsOf l mem .answer ≡ Loaded.Refused 3
+unfolding loadWordsOf
+too-long l mem r t = rw (r, t)
+
 pub load-alike : LoadAlike
 unfolding loadWordsOf
 load-alike a b mem q x y =
     by-test (refusedLength (length mem)) (λ r. rw r)
-    (λ r. by-test (ltb (length mem) (length a)) (λ t. absurd (x (rw (r, t))))
-    (λ t. by-test (ltb (length mem) (length b)) (λ u. absurd (y (rw (r, u))))
-    (λ u. rw (r, t, u, filled-alike a b (same a b q) (length mem) (ltb-false _ _ t) (ltb-false _ _ u)))))
+    (λ r. by-test (ltb (length mem) (length a)) (λ t. absurd (x (too-long a mem r t)))
+    (λ t. by-test (ltb (length mem) (length b)) (λ u. absurd (y (too-long b mem r u)))
+    (λ u. rw (r, t, u, padded-alike a b (same a b q) (length mem) (ltb-false _ _ t) (ltb-false _ _ u)))))
 
 -- the first word of a list from place p on, if it has one there
 begins : (l : List ℕ) (p w : ℕ) (ws : List ℕ) → drop (min p (length l)) l ≡ w ∷ ws → (p < length l) × (wordIn l p ≡ w)

@@ -34,10 +34,14 @@ pub record Total : Type 0 where
   pub one-of : (a b : List ℕ) → OneOf (Before a b) (Before b a) (Equal a b)
   pub exchange : (a b : List ℕ) → orderOf b a ≡ exchanged (orderOf a b)
 
+-- of a relation of lists
+abbrev pub TransitiveFor : (List ℕ → List ℕ → Type 0) → Type 0
+TransitiveFor R = (a b c : List ℕ) → R a b → R b c → R a c
+
 pub record Transitive : Type 0 where
-  pub before : (a b c : List ℕ) → Before a b → Before b c → Before a c
-  pub equal : (a b c : List ℕ) → Equal a b → Equal b c → Equal a c
-  pub before-or-equal : (a b c : List ℕ) → BeforeOrEqual a b → BeforeOrEqual b c → BeforeOrEqual a c
+  pub before : TransitiveFor Before
+  pub equal : TransitiveFor Equal
+  pub before-or-equal : TransitiveFor BeforeOrEqual
 
 -- two lists that are one list with some zeros after it, and with some others
 pub record TrailingZeros (a b : List ℕ) : Type 0 where
