@@ -14,6 +14,8 @@ use berth::Berth;
 use nilguseg::Core;
 
 const ROUNDS: usize = 15;
+/// A comparison of lists takes less than a tenth of a millisecond, so that 15 of them may all fall under a neighbour's load.
+const LIST_ROUNDS: usize = 2000;
 
 /// What is measured beside berth: its name, the cargo profile it is built in, and the machine.
 const MACHINES: [(&str, &str, &str); 3] = [
@@ -153,7 +155,7 @@ fn lists() {
     let words: Vec<u16> = (0..=0xFFFF).map(|at: u16| at | 1).collect();
     let longer = [words.clone(), vec![0; 65536]].concat();
     let mut rounds = [Vec::new(), Vec::new()];
-    for _ in 0..ROUNDS {
+    for _ in 0..LIST_ROUNDS {
         let start = cpu_time();
         let order = nilguseg::compare(black_box(&words), black_box(&longer));
         let compared = cpu_time();
@@ -164,7 +166,7 @@ fn lists() {
         rounds[1].push(end - compared);
     }
     let [library, iterators] = rounds.map(|rounds| times(rounds).least / 131072.0);
-    println!("\nequal lists of 65,536 and 131,072 words, nanoseconds of CPU time per place, the least of {ROUNDS}");
+    println!("\nequal lists of 65,536 and 131,072 words, CPU nanoseconds per place, the least of {LIST_ROUNDS} rounds");
     println!("library {library:.2}, Rust's iterators {iterators:.2}, share {:.2}", library / iterators);
 }
 
