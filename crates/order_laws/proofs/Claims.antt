@@ -16,7 +16,8 @@ use Rattle.emulator.proofs.Fill.{getD-zeros}
 use Rattle.order.specs.declared.Order.{Order}
 use Rattle.order.specs.Order.{wordIn, placeOf, orderOf, earlierOf, partOf, Slice, fromPlace, earlierPart}
 use Rattle.sheet.specs.declared.load.Loaded.{Loaded}
-use Rattle.sheet.specs.Load.{loadWordsOf}
+use Rattle.sheet.specs.Load.{Left, loadWordsOf}
+use Rattle.sheet.proofs.LoadLaws.{words-long}
 use Rattle.order_laws.specs.Claims.{Before, Equal, exchanged, OneOf, Total, Transitive, TrailingZeros, Equality, LoadAlike, Smaller, FirstDifference}
 use Rattle.order_laws.proofs.Compared.{by-words, Same, same-before, end-place, same-all, Compared, compared, decided, turned, replaced, joined, all-same}
 
@@ -63,7 +64,7 @@ alike-second a b c e = exchange a c ∙ (ap exchanged (alike-first a b c e) ∙ 
 pub transitive : Transitive
 transitive =
     record {
-      before = before;
+      before = λ a b c e f. before a b c e f;
       equal = λ a b c e f. alike-first a b c e ∙ f;
       before-or-equal = λ a b c x y.
           ⊎-elim
@@ -133,8 +134,7 @@ equality =
 
 -- loading
 too-long : (l mem : List ℕ) → refusedLength (length mem) ≡ false → ltb (length mem) (length l) ≡ true → loadWordsOf l mem .answer ≡ Loaded.Refused 3
-unfolding loadWordsOf
-too-long l mem r t = rw (r, t)
+too-long l mem r t = ap (λ (x : Left). x .answer) (sym (words-long l mem refl refl r (ltb-true _ _ t)))
 
 pub load-alike : LoadAlike
 unfolding loadWordsOf

@@ -34,7 +34,7 @@ pub record Total : Type 0 where
   pub one-of : (a b : List ℕ) → OneOf (Before a b) (Before b a) (Equal a b)
   pub exchange : (a b : List ℕ) → orderOf b a ≡ exchanged (orderOf a b)
 
--- of a relation of lists
+-- a relation of lists is transitive
 abbrev pub TransitiveFor : (List ℕ → List ℕ → Type 0) → Type 0
 TransitiveFor R = (a b c : List ℕ) → R a b → R b c → R a c
 
