@@ -7,7 +7,7 @@ use lib.ListN.{length, getD, drop, replicate, set, length-set}
 use lib.Seq.{drop-length}
 use borrow.Author.Fill.{fill-none, fill-more}
 
--- zeros have a 0 at every place, and there is one past their end
+-- a list of zeros has 0 at every place, and past its end the default is 0 too
 pub getD-zeros : (n k : ℕ) → _≡_ {A = ℕ} (getD (replicate n 0) k 0) 0
 getD-zeros zero k = refl
 getD-zeros (suc n) zero = refl
