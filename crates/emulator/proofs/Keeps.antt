@@ -1,18 +1,88 @@
--- Marks only grow and the lengths never change: what every access keeps of memory, a step and a run keep.
+-- What every access leads to, a cycle and a run lead to: a relation of the log and memory, or what stands in its place, before and after. So
+-- marks only grow and the lengths never change.
 use Prim.Native.Nat.{ℕ, zero, suc, _+_}
-use mathlib.Core.Path.{refl, _∙_}
+use mathlib.Core.List.{List, [], _++_, append-nil, append-assoc}
+use mathlib.Core.Path.{_≡_, refl, _∙_}
 use lib.Dec.{ltb, eqb}
 use lib.ListN.{length}
 use Rattle.emulator.specs.Core.{isHalted}
-use Rattle.emulator.specs.Memory.{Memory, Accessed, readOf, fetchOf, writeOf, Kept}
-use Rattle.emulator.specs.Outcome.{stepped}
-use Rattle.emulator.specs.Machine.{Access, none, load, store, stop, Plan, Turn, turn, loaded, onWord, afterRead, onWrite, makeOf, made, advanced, cycleOf, refusalOf, stepOf, Ran, isStepped, nextOf, runFrom}
+use Rattle.emulator.specs.Log.{readLog, replyLog, Logged, isFull}
+use Rattle.emulator.specs.Memory.{Memory, Accessed, readOf, writeOf, Kept}
+use Rattle.emulator.specs.Machine.{Access, none, load, store, stop, Plan, Store, memoryStore, readReply, writeReply, makeOf, Turn, carryOut, onFetch, advanced, cycleOf, refusalOf, stepOf, Ran, isStepped, nextOf, Setting, runFrom}
 use Rattle.emulator.specs.declared.core.Core.{Core}
+use Rattle.emulator.specs.declared.log.Purpose.{Purpose}
 use Rattle.emulator.specs.declared.memory.Read.{Read}
 use Rattle.emulator.specs.declared.memory.Write.{Write}
-use Rattle.emulator.proofs.Cases.{if-elim}
+use Rattle.instructions.proofs.Cases.{if-elim}
 use Rattle.emulator.proofs.Marks.{kept-read, kept-write}
 
+-- what is logged of an access, by its reply
+pub read-replied : (a : ℕ) (x : Read) → replyLog (readReply a x) ≡ readLog Purpose.Read a x
+read-replied a (Read.Word w) = refl
+read-replied a (Read.Stopped s) = refl
+
+pub write-replied : (x : Write) → replyLog (writeReply x) ≡ []
+write-replied Write.Done = refl
+write-replied (Write.Stopped s) = refl
+
+-- a relation that holds over each access, and over one after another
+pub record Leads {S : Type 0} (store : Store S) (P : List ℕ → S → List ℕ → S → Type 0) : Type 0 where
+  pub same : (l : List ℕ) (m : S) → P l m l m
+  pub next : {l l₁ l₂ : List ℕ} {m m₁ m₂ : S} → P l m l₁ m₁ → P l₁ m₁ l₂ m₂ → P l m l₂ m₂
+  pub read : (p : Purpose) (l : List ℕ) (m : S) (a : ℕ) → P l m (l ++ readLog p a (store .read m a .answer)) (store .read m a .memory)
+  pub write : (l : List ℕ) (m : S) (a v : ℕ) → P l m l (store .write m a v .memory)
+
+module _ {S : Type 0} (on : Store S) {P : List ℕ → S → List ℕ → S → Type 0} (leads : Leads on P) where
+  -- nothing is logged
+  kept-log : (l : List ℕ) {m m′ : S} → P l m l m′ → P l m (l ++ []) m′
+  kept-log l h = rw append-nil h
+
+  -- an access, and what follows a fetch
+  pub make-leads : (l : List ℕ) (x : Access) (m : S) → P l m (l ++ replyLog (makeOf on x m .answer)) (makeOf on x m .memory)
+  make-leads l none m = kept-log l (leads .same l m)
+  make-leads l (load a r up) m = rw read-replied (leads .read Purpose.Read l m a)
+  make-leads l (store a v) m = rw write-replied (kept-log l (leads .write l m a v))
+  make-leads l (stop s) m = kept-log l (leads .same l m)
+
+  pub on-fetch-leads : (more : ℕ → S → Logged (Turn S)) (c : Core) (l : List ℕ) (m : S)
+      → ((w : ℕ) → P l m (l ++ more w m .log) (more w m .result .memory))
+      → (r : Read) → P l m (l ++ onFetch more c m r .log) (onFetch more c m r .result .memory)
+  on-fetch-leads more c l m h (Read.Word w) = h w
+  on-fetch-leads more c l m h (Read.Stopped s) = kept-log l (leads .same l m)
+
+  pub next-leads : (more : Core → S → List ℕ → Logged (Ran S)) (n : ℕ) (l : List ℕ)
+      → ((c : Core) (m : S) (k : List ℕ) → P k m (more c m k .log) (more c m k .result .memory)) → (t : Logged (Turn S))
+      → P (l ++ t .log) (t .result .memory) (nextOf more n l t .log) (nextOf more n l t .result .memory)
+  next-leads more n l h t =
+      if-elim (λ (r : Logged (Ran S)). P (l ++ t .log) (t .result .memory) (r .log) (r .result .memory)) (isStepped (t .result .outcome))
+      (λ _. h (t .result .core) (t .result .memory) (l ++ t .log))
+      (λ _. leads .same (l ++ t .log) (t .result .memory))
+
+  -- a cycle and a run, whatever the words are planned to do
+  module _ (plan : Core → ℕ → Plan) where
+    pub cycle-leads : (l : List ℕ) (c : Core) (m : S) → P l m (l ++ cycleOf on plan c m .log) (cycleOf on plan c m .result .memory)
+    unfolding cycleOf
+    cycle-leads l c m =
+        rw (← append-assoc)
+        (leads .next (leads .read Purpose.Fetch l m (c .ip))
+        (on-fetch-leads (λ w. carryOut on (plan (advanced c) w)) c _ _ (λ w. make-leads _ (plan (advanced c) w .access) _) (on .read m (c .ip) .answer)))
+
+    pub run-leads : (given : Setting) (k n : ℕ) (c : Core) (m : S) (l : List ℕ)
+        → P l m (runFrom on plan given k n c m l .log) (runFrom on plan given k n c m l .result .memory)
+    unfolding runFrom
+    run-leads given zero n c m l =
+        if-elim (λ (r : Logged (Ran S)). P l m (r .log) (r .result .memory)) (isHalted c) (λ _. leads .same l m) (λ _. leads .same l m)
+    run-leads given (suc k) n c m l =
+        if-elim After (isHalted c)
+        (λ _. leads .same l m)
+        (λ _. if-elim After (isFull (given .room) (length l))
+        (λ _. leads .same l m)
+        (λ _. leads .next (cycle-leads l c m) (next-leads (runFrom on plan given k (n + 1)) n l (run-leads given k (n + 1)) (cycleOf on plan c m))))
+      where
+        After : Logged (Ran S) → Type 0
+        After r = P l m (r .log) (r .result .memory)
+
+-- what an access keeps of memory
 kept-same : (m : Memory) → Kept m m
 kept-same m = record { read = λ a e. e; written = λ a e. e; others = λ a. refl; words-length = refl; marks-length = refl }
 
@@ -26,59 +96,27 @@ kept-next p q =
       marks-length = q .marks-length ∙ p .marks-length;
     }
 
--- an access
-pub read-keeps : (m : Memory) (a : ℕ) → Kept m (readOf m a .memory)
+read-keeps : (m : Memory) (a : ℕ) → Kept m (readOf m a .memory)
 unfolding readOf
 read-keeps m a =
-    if-elim (λ (x : Accessed Read). Kept m (x .memory)) (ltb a (length (m .words))) (λ _. kept-read (m .words) (m .marks) a) (λ _. kept-same m)
+    if-elim (λ (x : Accessed Memory Read). Kept m (x .memory)) (ltb a (length (m .words))) (λ _. kept-read (m .words) (m .marks) a) (λ _. kept-same m)
 
 write-keeps : (m : Memory) (a v : ℕ) → Kept m (writeOf m a v .memory)
 unfolding writeOf
 write-keeps m a v =
-    if-elim (λ (x : Accessed Write). Kept m (x .memory)) (ltb a (length (m .words))) (λ _. kept-write (m .words) (m .marks) a v) (λ _. kept-same m)
+    if-elim (λ (x : Accessed Memory Write). Kept m (x .memory)) (ltb a (length (m .words))) (λ _. kept-write (m .words) (m .marks) a v) (λ _. kept-same m)
 
--- what follows it
-pub after-read-keeps : (x : Accessed Read) (c : Core) (more : ℕ → Memory → Turn) → ((w : ℕ) (m : Memory) → Kept m (more w m .memory))
-    → Kept (x .memory) (afterRead x c more .memory)
-after-read-keeps x c more h = by-answer (x .answer)
-  where
-    by-answer : (r : Read) → Kept (x .memory) (onWord more c (x .memory) r .memory)
-    by-answer (Read.Word w) = h w (x .memory)
-    by-answer (Read.Stopped s) = kept-same (x .memory)
+pub kept-leads : Leads memoryStore (λ l m l′ m′. Kept m m′)
+kept-leads = record { same = λ l m. kept-same m; next = kept-next; read = λ p l m a. read-keeps m a; write = λ l m a v. write-keeps m a v }
 
-on-write-keeps : (c : Core) (m : Memory) (r : Write) → Kept m (onWrite c m r .memory)
-on-write-keeps c m Write.Done = kept-same m
-on-write-keeps c m (Write.Stopped s) = kept-same m
-
-pub make-keeps : (c : Core) (x : Access) (m : Memory) → Kept m (makeOf c x m .memory)
-make-keeps c none m = kept-same m
-make-keeps c (load a r up) m = kept-next (read-keeps m a) (after-read-keeps (readOf m a) c (λ w. turn stepped (loaded c r up w)) (λ w m₁. kept-same m₁))
-make-keeps c (store a v) m = kept-next (write-keeps m a v) (on-write-keeps c (writeOf m a v .memory) (writeOf m a v .answer))
-make-keeps c (stop s) m = kept-same m
-
-pub next-keeps : (more : Core → Memory → Ran) (n : ℕ) → ((c : Core) (m : Memory) → Kept m (more c m .memory)) → (t : Turn)
-    → Kept (t .memory) (nextOf more n t .memory)
-next-keeps more n h t =
-    if-elim (λ (r : Ran). Kept (t .memory) (r .memory)) (isStepped (t .outcome)) (λ _. h (t .core) (t .memory)) (λ _. kept-same (t .memory))
-
--- a cycle, a step and a run, whatever the words are planned to do
 module _ (plan : Core → ℕ → Plan) where
-  pub cycle-keeps : (c : Core) (m : Memory) → Kept m (cycleOf plan c m .memory)
-  unfolding cycleOf
-  cycle-keeps c m = kept-next (read-keeps m (c .ip)) (after-read-keeps (fetchOf m (c .ip)) c (λ w. made (plan (advanced c) w)) (λ w m₁. make-keeps (plan (advanced c) w .core) (plan (advanced c) w .access) m₁))
+  pub cycle-keeps : (c : Core) (m : Memory) → Kept m (cycleOf memoryStore plan c m .result .memory)
+  cycle-keeps = cycle-leads memoryStore kept-leads plan []
 
   pub step-keeps : (c : Core) (m : Memory) → Kept m (stepOf plan c m .memory)
   unfolding stepOf
   step-keeps c m =
       if-elim After (eqb (refusalOf m) 0) (λ _. if-elim After (isHalted c) (λ _. kept-same m) (λ _. cycle-keeps c m)) (λ _. kept-same m)
     where
-      After : Turn → Type 0
+      After : Turn Memory → Type 0
       After t = Kept m (t .memory)
-
-  pub run-keeps : (k n : ℕ) (c : Core) (m : Memory) → Kept m (runFrom plan k n c m .memory)
-  unfolding runFrom
-  run-keeps zero n c m = if-elim (λ (r : Ran). Kept m (r .memory)) (isHalted c) (λ _. kept-same m) (λ _. kept-same m)
-  run-keeps (suc k) n c m =
-      if-elim (λ (r : Ran). Kept m (r .memory)) (isHalted c)
-      (λ _. kept-same m)
-      (λ _. kept-next (cycle-keeps c m) (next-keeps (runFrom plan k (n + 1)) n (run-keeps k (n + 1)) (cycleOf plan c m)))

@@ -23,17 +23,18 @@ use Rattle.execute.specs.Word.{addWord, subWord}
 use Rattle.execute.specs.declared.effect.Effect.{Effect}
 use Rattle.execute.specs.declared.effect.Effect.the-variants as effect
 use Rattle.emulator.specs.Core.{coreOf, writeGpr, writeSpr, setCond}
-use Rattle.emulator.specs.Memory.{Memory, lent, refusedLength, readMark, writeMark, accessed, readOf, fetchOf, writeOf}
+use Rattle.emulator.specs.Memory.{Memory, lent, refusedLength, readMark, writeMark, accessed, readOf, writeOf}
 use Rattle.emulator.specs.Outcome.{Outcome, stopOf, progressOf}
-use Rattle.emulator.specs.Machine.{Turn, turn, afterOf, accessOf, makeOf, planOf, cycleOf, refusalOf}
+use Rattle.emulator.specs.Machine.{afterOf, accessOf, Settled, settled, settleOf, refusalOf}
+use Rattle.emulator.specs.declared.effects.Applied.{Applied}
+use Rattle.emulator.specs.declared.effects.Progress.{Progress}
+use Rattle.emulator.specs.declared.effects.Reply.{Reply}
 use Rattle.emulator.specs.declared.core.Core.{Core}
-use Rattle.emulator.specs.declared.cycle.Cycled.{Cycled}
-use Rattle.emulator.specs.declared.cycle.Progress.{Progress}
 use Rattle.emulator.specs.declared.memory.Read.{Read}
 use Rattle.emulator.specs.declared.memory.Write.{Write}
 use Rattle.emulator.specs.declared.stop.Stop.{Stop}
 use Rattle.emulator.specs.declared.stop.Stop.the-variants as stop
-use Rattle.emulator.proofs.Cases.{if-elim}
+use Rattle.instructions.proofs.Cases.{if-elim}
 
 -- a register written, by which register a match told or what its number is; the flags with a condition; a stop by its number
 module _ (c : Core) (v : ℕ) where
@@ -68,64 +69,49 @@ module _ (ws ms : List ℕ) (a : ℕ) where
     unfolding writeOf
     write-past l = rw (le-ltb a (length ws) l)
 
--- what a cycle leaves, of the special registers that the code hands back; and what applying an effect comes to
-abbrev left : Cycled → List ℕ → Memory → Turn
-left t gprs m = turn (progressOf (t .progress)) (coreOf gprs (t .ip) (t .rp) (t .sp) (t .ef)) m
+-- what applying an effect comes to, of the special registers that the code hands back
+abbrev pub left : Applied → List ℕ → Settled
+left t gprs = settled (progressOf (t .progress)) (coreOf gprs (t .ip) (t .rp) (t .sp) (t .ef))
 
-abbrev on : ℕ → ℕ → ℕ → ℕ → Cycled
+abbrev on : ℕ → ℕ → ℕ → ℕ → Applied
 on ip rp sp ef = record { ip = ip; rp = rp; sp = sp; ef = ef; progress = Progress.Stepped }
 
-abbrev off : ℕ → ℕ → ℕ → ℕ → Stop → Cycled
+abbrev pub off : ℕ → ℕ → ℕ → ℕ → Stop → Applied
 off ip rp sp ef s = record { ip = ip; rp = rp; sp = sp; ef = ef; progress = Progress.Fault s }
 
-abbrev applied : List ℕ → ℕ → ℕ → ℕ → ℕ → Effect → Memory → Turn
-applied gprs ip rp sp ef e m = makeOf (afterOf (coreOf gprs ip rp sp ef) e) (accessOf e) m
+abbrev pub applied : List ℕ → ℕ → ℕ → ℕ → ℕ → Effect → Reply → Settled
+applied gprs ip rp sp ef e x = settleOf (afterOf (coreOf gprs ip rp sp ef) e) (accessOf e) x
 
--- an effect with no access, and a stop: by what the effect is, and what is handed back
-pub apply-plain : (gprs : List ℕ) (ip rp sp ef : ℕ) (gprs′ : List ℕ) (m : Memory) {e e′ : Effect} {t t′ : Cycled} → e ≡ e′ → t ≡ t′
-    → left t′ gprs′ m ≡ applied gprs ip rp sp ef e′ m → left t gprs′ m ≡ applied gprs ip rp sp ef e m
-apply-plain gprs ip rp sp ef gprs′ m p q h = rw (p, q) h
+-- by what the effect is, what is replied to its access, and what is handed back
+module _ (gprs : List ℕ) (ip rp sp ef : ℕ) (x : Reply) {e : Effect} {t : Applied} where
+  pub apply-plain : {e′ : Effect} {t′ : Applied} → e ≡ e′ → t ≡ t′ → left t′ gprs ≡ applied gprs ip rp sp ef e′ x
+      → left t gprs ≡ applied gprs ip rp sp ef e x
+  apply-plain p h k = rw (p, h) k
 
-module _ (gprs : List ℕ) (ip rp sp ef : ℕ) (mem ms : List ℕ) {e : Effect} {t : Cycled} where
   pub apply-gpr : {g : GeneralPurposeRegister} {i v n : ℕ} → e ≡ effect.Gpr g v → Bounded i (gprNumber g) n → t ≡ on ip rp sp ef
-      → left t (set gprs i v) (lent mem ms) ≡ applied gprs ip rp sp ef e (lent mem ms)
+      → left t (set gprs i v) ≡ applied gprs ip rp sp ef e x
   apply-gpr p b h = rw (p, b .is, h)
 
-  -- a load and a store, by what the access answers
-  module _ {a up : ℕ} {g : GeneralPurposeRegister} {r : Read} {ms′ : List ℕ} (p : e ≡ effect.Load a g up)
-      (q : accessed r (lent mem ms′) ≡ readOf (lent mem ms) a) where
-    pub apply-load : {i n w sp′ : ℕ} → r ≡ Read.Word w → Bounded i (gprNumber g) n → sp′ ≡ addWord sp up → t ≡ on ip rp sp′ ef
-        → left t (set gprs i w) (lent mem ms′) ≡ applied gprs ip rp sp ef e (lent mem ms)
-    apply-load k b s h = rw (p, ← q, k, b .is, h, s)
+  -- a load
+  module _ {a up : ℕ} {g : GeneralPurposeRegister} (p : e ≡ effect.Load a g up) where
+    pub apply-load : {i n b w sp′ : ℕ} → x ≡ Reply.Word b w → Bounded i (gprNumber g) n → sp′ ≡ addWord sp up → t ≡ on ip rp sp′ ef
+        → left t (set gprs i w) ≡ applied gprs ip rp sp ef e x
+    apply-load k i s h = rw (p, k, i .is, h, s)
 
-    pub apply-load-stopped : {s : Stop} → r ≡ Read.Stopped s → t ≡ off ip rp sp ef s → left t gprs (lent mem ms′) ≡ applied gprs ip rp sp ef e (lent mem ms)
-    apply-load-stopped k h = rw (p, ← q, k, h)
+    pub apply-load-other : {y : Reply} {t′ : Applied} → x ≡ y → t ≡ t′ → left t′ gprs ≡ applied gprs ip rp sp ef (effect.Load a g up) y
+        → left t gprs ≡ applied gprs ip rp sp ef e x
+    apply-load-other k h r = rw (p, k, h) r
 
-  module _ {a v low sp′ : ℕ} {r : Write} {mem′ ms′ : List ℕ} (p : e ≡ effect.Store a v low) (s : sp′ ≡ subWord sp low)
-      (q : accessed r (lent mem′ ms′) ≡ writeOf (lent mem ms) a v) where
-    pub apply-store : r ≡ Write.Done → t ≡ on ip rp sp′ ef → left t gprs (lent mem′ ms′) ≡ applied gprs ip rp sp ef e (lent mem ms)
-    apply-store k h = rw (p, ← q, k, h, s)
+  -- a store: sp stays lowered where it stops
+  module _ {a v low sp′ : ℕ} (p : e ≡ effect.Store a v low) (s : sp′ ≡ subWord sp low) where
+    pub apply-store : x ≡ Reply.Done → t ≡ on ip rp sp′ ef → left t gprs ≡ applied gprs ip rp sp ef e x
+    apply-store k h = rw (p, k, h, s)
 
-    pub apply-store-stopped : {x : Stop} → r ≡ Write.Stopped x → t ≡ off ip rp sp′ ef x → left t gprs (lent mem′ ms′) ≡ applied gprs ip rp sp ef e (lent mem ms)
-    apply-store-stopped k h = rw (p, ← q, k, h, s)
+    pub apply-store-word : {b w : ℕ} → x ≡ Reply.Word b w → t ≡ on ip rp sp′ ef → left t gprs ≡ applied gprs ip rp sp ef e x
+    apply-store-word k h = rw (p, k, h, s)
 
--- a cycle, by its fetch and its decoding
-module _ (gprs : List ℕ) (ip rp sp ef : ℕ) (mem ms : List ℕ) {ms′ : List ℕ} {r : Read} (q : accessed r (lent mem ms′) ≡ fetchOf (lent mem ms) ip) where
-  pub cycle-stopped : {s : Stop} {t : Cycled} → r ≡ Read.Stopped s → t ≡ off ip rp sp ef s
-      → left t gprs (lent mem ms′) ≡ cycleOf planOf (coreOf gprs ip rp sp ef) (lent mem ms)
-  unfolding cycleOf
-  cycle-stopped k h = rw (← q, k, h)
-
-  module _ {w next : ℕ} {d : Decoded} (k : r ≡ Read.Word w) (n : next ≡ addWord ip 1) (a : d ≡ decodeOf w) where
-    pub cycle-undecodable : {v : ℕ} {t : Cycled} → d ≡ Decoded.Undecodable v → t ≡ off next rp sp ef (stop.Undecodable v)
-        → left t gprs (lent mem ms′) ≡ cycleOf planOf (coreOf gprs ip rp sp ef) (lent mem ms)
-    unfolding cycleOf planOf
-    cycle-undecodable u h = rw (← q, k, ← n, ← a, u, h)
-
-    pub cycle-decoded : {i : Instruction} {e : Effect} {t : Turn} → d ≡ Decoded.Ins i → e ≡ executeOf (registers gprs next rp sp ef) i w
-        → t ≡ applied gprs next rp sp ef e (lent mem ms′) → t ≡ cycleOf planOf (coreOf gprs ip rp sp ef) (lent mem ms)
-    unfolding cycleOf planOf
-    cycle-decoded u x h = rw (← q, k, ← n, ← a, u, ← x) h
+    pub apply-store-stopped : {y : Stop} → x ≡ Reply.Stopped y → t ≡ off ip rp sp′ ef y → left t gprs ≡ applied gprs ip rp sp ef e x
+    apply-store-stopped k h = rw (p, k, h, s)
 
 -- the host tests
 pub length-none : (n : ℕ) → n ≡ 0 → true ≡ refusedLength n

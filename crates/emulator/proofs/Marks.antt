@@ -9,7 +9,7 @@ use lib.Seq.{getD-set-same, getD-set-other, set-out}
 use lib.Dec.{ltb, eqb}
 use borrow.Author.Tests.{eq-eqb, ne-eqb, eqb-true, eqb-false, ltb-true, ltb-false}
 use Rattle.emulator.specs.Memory.{lent, wasRead, wasWritten, readMark, writeMark, markRead, markWrite, Below, Kept}
-use Rattle.emulator.proofs.Cases.{by-test, if-elim}
+use Rattle.instructions.proofs.Cases.{by-test, if-elim}
 
 -- the definitions, by their tests
 module _ (m : ℕ) where

@@ -1,4 +1,5 @@
 pub mod Core
+pub mod Log
 pub mod Memory
 pub mod Outcome
 pub mod Machine

@@ -46,30 +46,27 @@ markRead ms a = set ms a (readMark (getD ms a 0))
 abbrev pub markWrite : List ℕ → ℕ → List ℕ
 markWrite ms a = set ms a (writeMark (getD ms a 0))
 
--- what an access comes to: its answer, and memory after it
-pub record Accessed (A : Type 0) : Type 0 where
+-- what an access comes to: its answer, and what it leaves of S, the memory or what stands in its place
+pub record Accessed (S A : Type 0) : Type 0 where
   pub answer : A
-  pub memory : Memory
+  pub memory : S
 
-abbrev pub accessed : {A : Type 0} → A → Memory → Accessed A
+abbrev pub accessed : {S A : Type 0} → A → S → Accessed S A
 accessed x m = record { answer = x; memory = m }
 
--- a read gives the word, a write puts one. An address at or past the length is out of range, which stops, and gets no mark.
-unfoldable pub readOf : Memory → ℕ → Accessed Read
+-- a read, which a fetch is too, gives the word, a write puts one. An address at or past the length is out of range, which stops, and gets no
+-- mark.
+unfoldable pub readOf : Memory → ℕ → Accessed Memory Read
 readOf m a =
     if ltb a (length (m .words))
     then accessed (Word (getD (m .words) a 0)) (lent (m .words) (markRead (m .marks) a))
     else accessed (Read.Stopped (OutOfRange a)) m
 
-unfoldable pub writeOf : Memory → ℕ → ℕ → Accessed Write
+unfoldable pub writeOf : Memory → ℕ → ℕ → Accessed Memory Write
 writeOf m a v =
     if ltb a (length (m .words))
     then accessed Done (lent (set (m .words) a v) (markWrite (m .marks) a))
     else accessed (Write.Stopped (OutOfRange a)) m
-
--- a fetch is a read
-abbrev pub fetchOf : Memory → ℕ → Accessed Read
-fetchOf = readOf
 
 -- a bit that is set in the first marks is set in the second
 abbrev pub Below : (ℕ → ℕ) → List ℕ → List ℕ → Type 0

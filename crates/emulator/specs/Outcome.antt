@@ -5,20 +5,22 @@ use Rattle.instructions.specs.Choice.{if_then_else_}
 use Rattle.instructions.specs.Decoding.{undecodable}
 use Rattle.emulator.specs.declared.stop.Stop.{Stop}
 use Rattle.emulator.specs.declared.stop.Stop.the-variants as stops
-use Rattle.emulator.specs.declared.cycle.Progress.{Progress}
-use Rattle.emulator.specs.declared.cycle.Progress.the-variants as progress
+use Rattle.emulator.specs.declared.effects.Progress.{Progress}
+use Rattle.emulator.specs.declared.effects.Progress.the-variants as progress
 use Rattle.emulator.specs.declared.cycle.End.{End}
 use Rattle.emulator.specs.declared.cycle.End.the-variants as ends
 use Rattle.emulator.specs.declared.core.Answer.{Answer}
 use Rattle.emulator.specs.declared.core.Answer.the-variants as answers
 
--- `fault` has the stop's number and the value in brackets, `refused` the number of the host test
+-- `fault` has the stop's number and the value in brackets, `refused` the number of the host test, `ended` that of an end by the log
+-- (document 02, CR 2): 30, fewer than four log words are free
 pub data Outcome : Type 0 where
   stepped : Outcome
   halted : Outcome
   limit : Outcome
   fault : ℕ → ℕ → Outcome
   refused : ℕ → Outcome
+  ended : ℕ → Outcome
 
 -- the stops of the rule words
 abbrev pub stopOf : Stop → Outcome
@@ -43,14 +45,17 @@ endOf ends.Halted = halted
 endOf ends.Limit = limit
 endOf (ends.Fault s) = stopOf s
 endOf (ends.Refused n) = refused n
+endOf (ends.Log n) = ended n
 
--- a step's outcome, from the steps counted and the end of a run of at most one: it stepped if it was counted, which the limit says too
+-- a step's outcome, from the steps counted and the end of a run of at most one: it stepped if it was counted, which the limit says too. (It has
+-- no log that could be full.)
 abbrev pub uncounted : Outcome → Outcome
 uncounted stepped = stepped
 uncounted halted = halted
 uncounted limit = stepped
 uncounted (fault n v) = fault n v
 uncounted (refused n) = refused n
+uncounted (ended n) = stepped
 
 abbrev pub answeredOf : ℕ → Outcome → Outcome
 answeredOf n o = if eqb n 1 then stepped else uncounted o

@@ -1,5 +1,6 @@
 // The core record: its registers, one step, and the run.
 use crate::cycle::End;
+use crate::cycle::LoggedRun;
 use crate::cycle::turns;
 use crate::memory::clear;
 use crate::memory::refuses_length;
@@ -8,9 +9,10 @@ use instructions::GPR;
 use instructions::SPR;
 ghost use mathlib.Core.Path.{_≡_};
 ghost use Rattle.emulator.specs.Core.{newCore, readGpr, writeGpr, readSpr, writeSpr, isHalted, isCondSet, setCond};
+ghost use Rattle.emulator.specs.Log.{written};
 ghost use Rattle.emulator.specs.Memory.{lent};
 ghost use Rattle.emulator.specs.Outcome.{answerOf, endOf, answeredOf};
-ghost use Rattle.emulator.specs.Machine.{planOf, turn, refusalOf, stepOf, ran, runOf};
+ghost use Rattle.emulator.specs.Machine.{planOf, turn, refusalOf, stepOf, ran, ranLogged, runOf, runLoggedOf};
 
 pub struct Core {
     pub gprs: [u16; 8],
@@ -62,6 +64,7 @@ fn answered(steps: u32, end: End) -> Answer
         End::Limit => Answer::Stepped,
         End::Fault(stop) => Answer::Fault(stop),
         End::Refused(number) => Answer::Refused(number),
+        End::Log(_) => Answer::Stepped,
     }
 }
 
@@ -157,7 +160,8 @@ impl Core {
                 answer: Answer::Refused(refused),
             };
         }
-        let t = turns(self, memory, marks, 1);
+        let mut unused = [0u32; 1];
+        let t = turns(self, memory, marks, 1, false, &mut unused);
         let core = t.core;
         let end = t.end;
         let answer = answered(t.steps, end);
@@ -177,6 +181,37 @@ impl Core {
             };
         }
         clear(marks);
-        turns(self, memory, marks, limit)
+        let mut unused = [0u32; 1];
+        let t = turns(self, memory, marks, limit, false, &mut unused);
+        let core = t.core;
+        let end = t.end;
+        Run {
+            core,
+            steps: t.steps,
+            end,
+        }
+    }
+
+    // The run with a log of its reads, which is written to the front of the lent one. It also ends where fewer than four words are free.
+    pub fn run_logged(
+        self,
+        memory: &mut [u16],
+        marks: &mut [u8],
+        limit: u32,
+        log: &mut [u32],
+    ) -> LoggedRun
+        ensures { λ r. ⌜ ranLogged (ran (endOf (r .end)) (r .steps) (r .core) (lent (now (memory .exit)) (now (marks .exit)))) (written (r .logged) (now (log .exit))) ≡ runLoggedOf planOf self (lent (now (memory .entry)) (now (marks .entry))) limit (now (log .entry)) ⌝ }
+    {
+        let refused = refusal(memory, marks);
+        if refused != 0 {
+            return LoggedRun {
+                core: self,
+                steps: 0,
+                end: End::Refused(refused),
+                logged: 0,
+            };
+        }
+        clear(marks);
+        turns(self, memory, marks, limit, true, log)
     }
 }

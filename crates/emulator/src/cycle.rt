@@ -1,7 +1,15 @@
 // One cycle and the loop of cycles. The loop takes the core apart once: its calls are lent the eight general registers as an array and
 // get the others by value, since a whole core by value is copied at each call.
 use crate::core::Core;
-use crate::core::Run;
+use crate::effects::Applied;
+use crate::effects::Progress;
+use crate::effects::Reply;
+use crate::effects::apply;
+use crate::effects::faulted;
+use crate::log::Reads;
+use crate::log::is_full;
+use crate::log::log_reads;
+use crate::log::reads_of;
 use crate::memory::Read;
 use crate::memory::Write;
 use crate::memory::fetch_word;
@@ -12,64 +20,73 @@ use execute::Effect;
 use execute::execute;
 use instructions::Decoded;
 use instructions::Instruction;
+ghost use mathlib.Core.List.{[]};
 ghost use mathlib.Core.Path.{_≡_};
 ghost use lib.ListN.{length};
 ghost use Rattle.emulator.specs.Core.{coreOf};
-ghost use Rattle.emulator.specs.Memory.{lent};
+ghost use Rattle.emulator.specs.Log.{replyLog, readsLog, logged, roomOf, written};
+ghost use Rattle.emulator.specs.Memory.{lent, accessed};
 ghost use Rattle.emulator.specs.Outcome.{progressOf, endOf};
-ghost use Rattle.emulator.specs.Machine.{afterOf, accessOf, planOf, turn, makeOf, cycleOf, ran, runFrom};
+ghost use Rattle.emulator.specs.Machine.{accessOf, planOf, memoryStore, makeOf, turn, carryOut, cycleOf, ran, ranLogged, inBuffer, setting, runFrom};
 
-// How a run ends. `Refused` has the number of the host test.
+// How a run ends. `Refused` has the number of the host test, `Log` that of an end by the log: 30, fewer than four of its words are free.
 pub enum End {
     Halted,
     Limit,
     Fault(Stop),
     Refused(u8),
+    Log(u8),
 }
 
-// What a cycle of a core that runs comes to.
-enum Progress {
-    Stepped,
-    Fault(Stop),
+// What a word leaves, once it is fetched: the special registers, what it comes to, and the reply to its access.
+struct Obeyed {
+    applied: Applied,
+    reply: Reply,
 }
 
-// What a cycle leaves: the special registers, and what it comes to.
+// What a cycle leaves: the same with its reads.
 struct Cycled {
-    ip: u16,
-    rp: u16,
-    sp: u16,
-    ef: u16,
-    progress: Progress,
+    applied: Applied,
+    reads: Reads,
 }
 
-// The special registers after a cycle that stepped, and after one that faulted.
-fn stepped(ip: u16, rp: u16, sp: u16, ef: u16) -> Cycled
-    ensures { λ r. ⌜ r ≡ record { ip = ip; rp = rp; sp = sp; ef = ef; progress = Progress.Stepped } ⌝ }
+// What a run leaves: the core, the steps counted, its end, and the number of its log words.
+pub struct LoggedRun {
+    pub core: Core,
+    pub steps: u32,
+    pub end: End,
+    pub logged: usize,
+}
+
+// Makes the access that an effect leaves to be made.
+fn access(effect: Effect, memory: &mut [u16], marks: &mut [u8]) -> Reply
+    requires { ⌜ length (now marks) ≡ length (now memory) ⌝ }
+    ensures { λ r. ⌜ accessed r (lent (now (memory .exit)) (now (marks .exit))) ≡ makeOf memoryStore (accessOf effect) (lent (now (memory .entry)) (now (marks .entry))) ⌝ }
 {
-    Cycled {
-        ip,
-        rp,
-        sp,
-        ef,
-        progress: Progress::Stepped,
+    match effect {
+        Effect::Load {
+            address,
+            into: _,
+            raise: _,
+        } => match read_word(memory, marks, address) {
+            Read::Word(word) => Reply::Word { address, word },
+            Read::Stopped(stop) => Reply::Stopped(stop),
+        },
+        Effect::Store {
+            address,
+            value,
+            lower: _,
+        } => match write_word(memory, marks, address, value) {
+            Write::Done => Reply::Done,
+            Write::Stopped(stop) => Reply::Stopped(stop),
+        },
+        _ => Reply::Done,
     }
 }
 
-fn faulted(ip: u16, rp: u16, sp: u16, ef: u16, stop: Stop) -> Cycled
-    ensures { λ r. ⌜ r ≡ record { ip = ip; rp = rp; sp = sp; ef = ef; progress = Progress.Fault stop } ⌝ }
-{
-    Cycled {
-        ip,
-        rp,
-        sp,
-        ef,
-        progress: Progress::Fault(stop),
-    }
-}
-
-// Changes the registers as the effect says, and makes its access.
-fn apply(
-    effect: Effect,
+// Decodes the word, executes it, and makes its access.
+fn obey(
+    word: u16,
     gprs: &mut [u16; 8],
     ip: u16,
     rp: u16,
@@ -77,52 +94,25 @@ fn apply(
     ef: u16,
     memory: &mut [u16],
     marks: &mut [u8],
-) -> Cycled
+) -> Obeyed
     requires { ⌜ length (now marks) ≡ length (now memory) ⌝ }
-    ensures { λ r. ⌜ turn (progressOf (r .progress)) (coreOf (now (gprs .exit)) (r .ip) (r .rp) (r .sp) (r .ef)) (lent (now (memory .exit)) (now (marks .exit))) ≡ makeOf (afterOf (coreOf (now (gprs .entry)) ip rp sp ef) effect) (accessOf effect) (lent (now (memory .entry)) (now (marks .entry))) ⌝ }
+    ensures { λ r. ⌜ logged (turn (progressOf (r .applied .progress)) (coreOf (now (gprs .exit)) (r .applied .ip) (r .applied .rp) (r .applied .sp) (r .applied .ef)) (lent (now (memory .exit)) (now (marks .exit)))) (replyLog (r .reply)) ≡ carryOut memoryStore (planOf (coreOf (now (gprs .entry)) ip rp sp ef) word) (lent (now (memory .entry)) (now (marks .entry))) ⌝ }
 {
-    match effect {
-        Effect::None => stepped(ip, rp, sp, ef),
-        Effect::Gpr(reg, value) => {
-            let i = reg.encode() as usize;
-            gprs[i] = value;
-            stepped(ip, rp, sp, ef)
-        }
-        Effect::Ip(value) => stepped(value, rp, sp, ef),
-        Effect::Rp(value) => stepped(ip, value, sp, ef),
-        Effect::Sp(value) => stepped(ip, rp, value, ef),
-        Effect::Ef(value) => stepped(ip, rp, sp, value),
-        Effect::Call(address) => stepped(address, ip, sp, ef),
-        Effect::Load {
-            address,
-            into,
-            raise,
-        } => match read_word(memory, marks, address) {
-            Read::Word(word) => {
-                let i = into.encode() as usize;
-                gprs[i] = word;
-                stepped(ip, rp, execute::add(sp, raise), ef)
-            }
-            Read::Stopped(stop) => faulted(ip, rp, sp, ef, stop),
+    match Instruction::decode(word) {
+        Decoded::Undecodable(w) => Obeyed {
+            applied: faulted(ip, rp, sp, ef, Stop::Undecodable(w)),
+            reply: Reply::Done,
         },
-        Effect::Store {
-            address,
-            value,
-            lower,
-        } => {
-            let lowered = execute::sub(sp, lower);
-            match write_word(memory, marks, address, value) {
-                Write::Done => stepped(ip, rp, lowered, ef),
-                Write::Stopped(stop) => faulted(ip, rp, lowered, ef, stop),
-            }
+        Decoded::Ins(ins) => {
+            let effect = execute(ins, word, gprs, ip, rp, sp, ef);
+            let reply = access(effect, memory, marks);
+            let applied = apply(effect, reply, gprs, ip, rp, sp, ef);
+            Obeyed { applied, reply }
         }
-        Effect::Decimal(word) => faulted(ip, rp, sp, ef, Stop::Decimal(word)),
-        Effect::Amount(amount) => faulted(ip, rp, sp, ef, Stop::Amount(amount)),
-        Effect::Negation(value) => faulted(ip, rp, sp, ef, Stop::Negation(value)),
     }
 }
 
-// Fetches at ip, advances ip, decodes, executes, and applies the effect.
+// Fetches at ip, advances ip, and obeys the word.
 fn cycle(
     gprs: &mut [u16; 8],
     ip: u16,
@@ -133,27 +123,38 @@ fn cycle(
     marks: &mut [u8],
 ) -> Cycled
     requires { ⌜ length (now marks) ≡ length (now memory) ⌝ }
-    ensures { λ r. ⌜ turn (progressOf (r .progress)) (coreOf (now (gprs .exit)) (r .ip) (r .rp) (r .sp) (r .ef)) (lent (now (memory .exit)) (now (marks .exit))) ≡ cycleOf planOf (coreOf (now (gprs .entry)) ip rp sp ef) (lent (now (memory .entry)) (now (marks .entry))) ⌝ }
+    ensures { λ r. ⌜ logged (turn (progressOf (r .applied .progress)) (coreOf (now (gprs .exit)) (r .applied .ip) (r .applied .rp) (r .applied .sp) (r .applied .ef)) (lent (now (memory .exit)) (now (marks .exit)))) (readsLog ip (r .reads)) ≡ cycleOf memoryStore planOf (coreOf (now (gprs .entry)) ip rp sp ef) (lent (now (memory .entry)) (now (marks .entry))) ⌝ }
 {
     match fetch_word(memory, marks, ip) {
-        Read::Stopped(stop) => faulted(ip, rp, sp, ef, stop),
+        Read::Stopped(stop) => Cycled {
+            applied: faulted(ip, rp, sp, ef, stop),
+            reads: Reads::None,
+        },
         Read::Word(word) => {
             let next = execute::add(ip, 1);
-            match Instruction::decode(word) {
-                Decoded::Undecodable(w) => faulted(next, rp, sp, ef, Stop::Undecodable(w)),
-                Decoded::Ins(ins) => {
-                    let effect = execute(ins, word, gprs, next, rp, sp, ef);
-                    apply(effect, gprs, next, rp, sp, ef, memory, marks)
-                }
+            let o = obey(word, gprs, next, rp, sp, ef, memory, marks);
+            let applied = o.applied;
+            let reply = o.reply;
+            Cycled {
+                applied,
+                reads: reads_of(word, reply),
             }
         }
     }
 }
 
-// Cycles up to the limit: each turn tests halt first, then the limit. A cycle that faults isn't counted.
-pub fn turns(core: Core, memory: &mut [u16], marks: &mut [u8], limit: u32) -> Run
+// Cycles up to the limit: each turn tests halt first, then the limit, then the room for the log, if there is one. A cycle that faults isn't
+// counted.
+pub fn turns(
+    core: Core,
+    memory: &mut [u16],
+    marks: &mut [u8],
+    limit: u32,
+    logging: bool,
+    log: &mut [u32],
+) -> LoggedRun
     requires { ⌜ length (now marks) ≡ length (now memory) ⌝ }
-    ensures { λ r. ⌜ ran (endOf (r .end)) (r .steps) (r .core) (lent (now (memory .exit)) (now (marks .exit))) ≡ runFrom planOf limit 0 core (lent (now (memory .entry)) (now (marks .entry))) ⌝ }
+    ensures { λ r. ⌜ ranLogged (ran (endOf (r .end)) (r .steps) (r .core) (lent (now (memory .exit)) (now (marks .exit)))) (written (r .logged) (now (log .exit))) ≡ inBuffer (setting (roomOf logging (length (now (log .entry))))) (now (log .entry)) (runFrom memoryStore planOf (setting (roomOf logging (length (now (log .entry))))) limit 0 core (lent (now (memory .entry)) (now (marks .entry))) []) ⌝ }
 {
     let mut gprs = core.gprs;
     let mut ip = core.ip;
@@ -161,6 +162,7 @@ pub fn turns(core: Core, memory: &mut [u16], marks: &mut [u8], limit: u32) -> Ru
     let mut sp = core.sp;
     let mut ef = core.ef;
     let mut steps: u32 = 0;
+    let mut logged: usize = 0;
     let end = loop {
         if execute::is_halted(ef) {
             break End::Halted;
@@ -168,12 +170,18 @@ pub fn turns(core: Core, memory: &mut [u16], marks: &mut [u8], limit: u32) -> Ru
         if steps == limit {
             break End::Limit;
         }
+        if is_full(logging, log.len(), logged) {
+            break End::Log(30);
+        }
         let t = cycle(&mut gprs, ip, rp, sp, ef, memory, marks);
-        ip = t.ip;
-        rp = t.rp;
-        sp = t.sp;
-        ef = t.ef;
-        let progress = t.progress;
+        let reads = t.reads;
+        logged = log_reads(logging, log, logged, ip, reads);
+        let applied = t.applied;
+        ip = applied.ip;
+        rp = applied.rp;
+        sp = applied.sp;
+        ef = applied.ef;
+        let progress = applied.progress;
         match progress {
             Progress::Stepped => {
                 steps += 1;
@@ -190,9 +198,10 @@ pub fn turns(core: Core, memory: &mut [u16], marks: &mut [u8], limit: u32) -> Ru
         sp,
         ef,
     };
-    Run {
+    LoggedRun {
         core: after,
         steps,
         end,
+        logged,
     }
 }

@@ -2,7 +2,7 @@
 use crate::stop::Stop;
 ghost use mathlib.Core.Path.{_≡_};
 ghost use lib.ListN.{length, replicate};
-ghost use Rattle.emulator.specs.Memory.{refusedLength, readMark, writeMark, lent, accessed, readOf, fetchOf, writeOf};
+ghost use Rattle.emulator.specs.Memory.{refusedLength, readMark, writeMark, lent, accessed, readOf, writeOf};
 
 // What a read finds.
 pub enum Read {
@@ -59,7 +59,7 @@ pub fn read_word(memory: &[u16], marks: &mut [u8], address: u16) -> Read
 // The word at an address, read to be executed.
 pub fn fetch_word(memory: &[u16], marks: &mut [u8], address: u16) -> Read
     requires { ⌜ length (now marks) ≡ length (now memory) ⌝ }
-    ensures { λ r. ⌜ accessed r (lent (now (memory .entry)) (now (marks .exit))) ≡ fetchOf (lent (now (memory .entry)) (now (marks .entry))) address ⌝ }
+    ensures { λ r. ⌜ accessed r (lent (now (memory .entry)) (now (marks .exit))) ≡ readOf (lent (now (memory .entry)) (now (marks .entry))) address ⌝ }
 {
     read_word(memory, marks, address)
 }

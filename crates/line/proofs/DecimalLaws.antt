@@ -7,7 +7,7 @@ use native.Mathlib.Omega.{arith}
 use lib.Dec.{ltb}
 use lib.ListN.{length, length-append}
 use borrow.Author.Tests.{lt-ltb, le-ltb, ltb-true, ltb-false}
-use Rattle.emulator.proofs.Cases.{by-test}
+use Rattle.instructions.proofs.Cases.{by-test}
 use Rattle.line.specs.Decimal.{digit, digitsOf, decimalOf}
 use Rattle.line.specs.Line.{field}
 

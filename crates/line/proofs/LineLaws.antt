@@ -1,7 +1,7 @@
 -- Laws of the line, one for each way through the code.
 use Prim.Native.Nat.{ℕ, _≤_}
 use mathlib.Core.List.{List, [], _∷_, _++_, append-nil, append-assoc}
-use mathlib.Core.Path.{_≡_, sym}
+use mathlib.Core.Path.{_≡_, refl, sym}
 use lib.ListN.{length, take, replicate}
 use lib.Seq.{length-take-le}
 use Rattle.emulator.specs.declared.core.Core.{Core}
@@ -60,6 +60,10 @@ module _ (x : End) (steps : ℕ) (c : Core) {b₀ b₁ b₂ : List ℕ} {a₁ a�
     where
       both : fields (n ∷ v ∷ []) ++ (fields (stateOf steps c) ++ 10 ∷ []) ≡ fields (n ∷ v ∷ stateOf steps c) ++ 10 ∷ []
       both = rw (fields-append (n ∷ v ∷ []) (stateOf steps c)) (sym (append-assoc (fields (n ∷ v ∷ [])) (fields (stateOf steps c)) (10 ∷ [])))
+
+pub put-log : (x : End) (steps : ℕ) (c : Core) (b : List ℕ) {n : ℕ} → x ≡ End.Log n → AtFront b b 0 (endLine (endOf x) steps c)
+unfolding endLine
+put-log x steps c b e = rw e (record { bytes = refl; size = refl })
 
 pub put-host : (x : End) (steps : ℕ) (c : Core) {before after : List ℕ} {n past : ℕ} → x ≡ End.Refused n → AtFront before after past (refusedLine n)
     → AtFront before after past (endLine (endOf x) steps c)

@@ -7,7 +7,7 @@ use native.Mathlib.Nat.{add-assoc}
 use native.Mathlib.Omega.{arith}
 use lib.ListN.{length, getD, take, drop, length-append}
 use lib.Seq.{sets, take-suc, take-all, length-take-le}
-use Rattle.sheet.proofs.Stores.{sets-append, sets-front, sets-done}
+use Rattle.emulator.proofs.Stores.{sets-append, sets-front, sets-done}
 use Rattle.line.specs.Decimal.{digit, decimalOf}
 use Rattle.line.specs.Line.{field, fields}
 use Rattle.line.specs.Put.{Put, AtFront}

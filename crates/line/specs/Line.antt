@@ -5,8 +5,8 @@ use lib.Dec.{eqb}
 use lib.ListN.{replicate}
 use Rattle.instructions.specs.Choice.{if_then_else_}
 use Rattle.emulator.specs.declared.core.Core.{Core}
-use Rattle.emulator.specs.Memory.{lent}
-use Rattle.emulator.specs.Outcome.{Outcome, stepped, halted, limit, fault, refused}
+use Rattle.emulator.specs.Memory.{Memory, lent}
+use Rattle.emulator.specs.Outcome.{Outcome, stepped, halted, limit, fault, refused, ended}
 use Rattle.emulator.specs.Machine.{planOf, Ran, runOf}
 use Rattle.sheet.specs.declared.load.Loaded.{Loaded}
 use Rattle.sheet.specs.Load.{Left, loadSheetOf}
@@ -46,15 +46,16 @@ stateOf steps c = steps ∷ c .ip ∷ c .rp ∷ c .sp ∷ c .ef ∷ c .gprs
 abbrev pub refusedLine : ℕ → List ℕ
 refusedLine n = row refusedWord (n ∷ [])
 
--- the line of a run by its end, a fault with number and value; no run ends as stepped
+-- the line of a run by its end, a fault with number and value; no run ends as stepped, and none here has a log to end it
 unfoldable pub endLine : Outcome → ℕ → Core → List ℕ
 endLine stepped steps c = []
 endLine halted steps c = row haltedWord (stateOf steps c)
 endLine limit steps c = row limitWord (stateOf steps c)
 endLine (fault n v) steps c = row faultWord (n ∷ v ∷ stateOf steps c)
 endLine (refused n) steps c = refusedLine n
+endLine (ended n) steps c = []
 
-abbrev pub ranLine : Ran → List ℕ
+abbrev pub ranLine : Ran Memory → List ℕ
 ranLine t = endLine (t .end) (t .steps) (t .core)
 
 -- a sheet loaded: its run, with limit 1,000,000

@@ -62,6 +62,7 @@ fn put_run(out: &mut [u8; 128], run: Run) -> usize
             put_state(out, at, run.steps, core)
         }
         End::Refused(number) => put_refused(out, number),
+        End::Log(_) => 0,
     }
 }
 

@@ -16,6 +16,9 @@ fault-ended is-fault numbered h = rw (is-fault, numbered, h)
 pub refused-ended : {e : End} {n r : ℕ} → e ≡ End.Refused n → r ≡ answered 4 n 0 → r ≡ outcomeNumber (endOf e)
 refused-ended is-refused h = rw (is-refused, h)
 
+pub log-ended : {e : End} {n r : ℕ} → e ≡ End.Log n → r ≡ answered 5 n 0 → r ≡ outcomeNumber (endOf e)
+log-ended is-log h = rw (is-log, h)
+
 pub refused-answered : {a : Answer} {n r : ℕ} → a ≡ Answer.Refused n → r ≡ outcomeNumber (endOf (End.Refused n)) → r ≡ outcomeNumber (answerOf a)
 refused-answered is-refused h = rw (is-refused, h)
 

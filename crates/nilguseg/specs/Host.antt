@@ -5,6 +5,7 @@ use mathlib.Core.List.{List, [], _∷_, _++_}
 use lib.ListN.{take, getD}
 use Rattle.emulator.specs.declared.core.Core.{Core}
 use Rattle.emulator.specs.Core.{coreOf}
+use Rattle.emulator.specs.Memory.{Memory}
 use Rattle.emulator.specs.Machine.{Turn, Ran}
 use Rattle.emulator.specs.Outcome as machine
 use Rattle.sheet.specs.declared.load.Loaded.{Loaded}
@@ -25,13 +26,14 @@ wordsOf c = c .gprs ++ c .ip ∷ c .rp ∷ c .sp ∷ c .ef ∷ []
 abbrev pub answered : ℕ → ℕ → ℕ → ℕ
 answered how number value = how * 2 ^ 24 + number * 2 ^ 16 + value
 
--- one numbering for a step and for a run; 5 and above are free for more ends
+-- one numbering for a step and for a run; 6 and above are free for more ends
 abbrev pub outcomeNumber : machine.Outcome → ℕ
 outcomeNumber machine.stepped = answered 0 0 0
 outcomeNumber machine.halted = answered 1 0 0
 outcomeNumber machine.limit = answered 2 0 0
 outcomeNumber (machine.fault n v) = answered 3 n v
 outcomeNumber (machine.refused n) = answered 4 n 0
+outcomeNumber (machine.ended n) = answered 5 n 0
 
 -- a load: 0 for what is done, or the number of the refusal
 abbrev pub loadedNumber : Loaded → ℕ
@@ -57,11 +59,11 @@ pub record Call : Type 0 where
 abbrev pub call : ℕ → List (List ℕ) → Call
 call n ls = record { answer = n; lists = ls }
 
-abbrev pub stepCall : Turn → Call
+abbrev pub stepCall : Turn Memory → Call
 stepCall t = call (outcomeNumber (t .outcome)) (wordsOf (t .core) ∷ t .memory .words ∷ t .memory .marks ∷ [])
 
 -- the end from bit 32 on, the steps in bits 31..0
-abbrev pub runCall : Ran → Call
+abbrev pub runCall : Ran Memory → Call
 runCall t = call (outcomeNumber (t .end) * 2 ^ 32 + t .steps) (wordsOf (t .core) ∷ t .memory .words ∷ t .memory .marks ∷ [])
 
 abbrev pub loadCall : Left → Call

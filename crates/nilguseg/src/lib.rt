@@ -1,8 +1,5 @@
 // What C and Rust hosts call to load, run and write, and to compare word lists. A slice is a pointer and then a length, an array a pointer.
 // `Instruction::decode` must have no caller here but the cycle, or it is not inlined into the run: see `nilguseg_words`.
-use crate::core::core_of;
-use crate::core::put_core;
-use crate::number::end_number;
 use crate::number::loaded_number;
 use crate::number::order_number;
 use crate::number::step_number;
@@ -23,6 +20,10 @@ ghost use Rattle.nilguseg.specs.Host.{coreFrom, call, stepCall, runCall,
 
 mod core;
 mod number;
+
+pub use core::core_of;
+pub use core::put_core;
+pub use number::end_number;
 
 // One step of the core.
 #[no_mangle]

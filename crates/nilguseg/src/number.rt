@@ -25,6 +25,7 @@ pub fn end_number(end: End) -> u32
             number(3, fault.number, fault.value)
         }
         End::Refused(test) => number(4, test, 0),
+        End::Log(end) => number(5, end, 0),
     }
 }
 

@@ -11,7 +11,7 @@ use lib.ListN.{length, drop, replicate, length-append, length-replicate, length-
 use lib.Seq.{ext-getD, drop-cons}
 use borrow.Author.Tests.{leb-true, leb-false, ltb-true, ltb-false}
 use Rattle.emulator.specs.Memory.{refusedLength}
-use Rattle.emulator.proofs.Cases.{by-test}
+use Rattle.instructions.proofs.Cases.{by-test}
 use Rattle.emulator.proofs.Fill.{getD-zeros}
 use Rattle.order.specs.declared.Order.{Order}
 use Rattle.order.specs.Order.{wordIn, placeOf, orderOf, earlierOf, partOf, Slice, fromPlace, earlierPart}

@@ -8,7 +8,7 @@ use native.Mathlib.Nat.{zero-add, eq-or-lt-of-le, le-antisymm}
 use lib.Dec.{ltb, eqb}
 use lib.ListN.{length}
 use borrow.Author.Tests.{ltb-true, ltb-false, eqb-true, eqb-false}
-use Rattle.emulator.proofs.Cases.{by-test, if-elim}
+use Rattle.instructions.proofs.Cases.{by-test, if-elim}
 use Rattle.order.specs.declared.Order.{Order}
 use Rattle.order.specs.Order.{wordIn, differFrom, placeOf, byWords, orderOf}
 use Rattle.order.proofs.Laws.{past-end}

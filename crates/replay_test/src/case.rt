@@ -102,6 +102,7 @@ fn same_end(end: End, case: &[u8; 222]) -> bool {
         End::Limit => same_outcome(1, 0, 0, case),
         End::Fault(stop) => same_fault(stop, case),
         End::Refused(_) => false,
+        End::Log(_) => false,
     }
 }
 

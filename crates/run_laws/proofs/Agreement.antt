@@ -1,7 +1,7 @@
--- Two runs agree: by an invariant of the two memories, with the same marks, over the same core. A word is the same in both if it was
+-- Two runs agree: they go side by side over the same core and marks, while their memories are alike. A word is the same in both if it was
 -- written, or if the first run's final marks say that it is read. Nothing here looks at an instruction.
-use Prim.Native.Nat.{ℕ, zero, suc, _+_, _<_}
-use mathlib.Core.List.{List}
+use Prim.Native.Nat.{ℕ, _<_}
+use mathlib.Core.List.{List, []}
 use mathlib.Core.Path.{_≡_, refl, sym, ap, _∙_, subst}
 use mathlib.Core.Logic.{_≢_, ⊎-elim}
 use native.Mathlib.Omega.{arith}
@@ -9,20 +9,21 @@ use lib.Dec.{ltb}
 use lib.ListN.{length, getD, set, replicate, length-set, length-replicate}
 use lib.Seq.{getD-set-same, getD-set-other}
 use borrow.Author.Tests.{ltb-true}
-use Rattle.run_laws.specs.Agreement.{wordAt, markAt, Agree, AgreementOf, Agreement}
-use Rattle.emulator.specs.Core.{isHalted}
-use Rattle.emulator.specs.Memory.{Memory, lent, wasRead, wasWritten, readMark, writeMark, markRead, markWrite, Accessed, readOf, fetchOf, writeOf, Below}
-use Rattle.emulator.specs.Outcome.{stepped}
-use Rattle.emulator.specs.Machine.{Access, none, load, store, stop, Plan, planOf, Turn, turn, onWord, afterRead, onWrite, afterWrite, loaded, makeOf, made, advanced, cycleOf, unmarked, Ran, ran, isStepped, nextOf, runFrom}
+use Rattle.instructions.proofs.Cases.{if-both}
+use Rattle.run_laws.specs.Agreement.{wordAt, markAt, Agree, AgreeLogged, Compared, equal-room, enough-room, AgreementOf, Agreement, PlainAgreement}
+use Rattle.emulator.specs.Log.{Logged, logged}
+use Rattle.emulator.specs.Memory.{Memory, lent, wasRead, wasWritten, readMark, writeMark, markRead, markWrite, Accessed, readOf, writeOf, Below}
+use Rattle.emulator.specs.Machine.{Plan, planOf, Access, none, load, store, stop, advanced, memoryStore, refusalOf, unmarked, Ran, ran, Setting, plain, runFrom, runIn, runOf}
 use Rattle.emulator.specs.declared.core.Core.{Core}
 use Rattle.emulator.specs.declared.memory.Read.{Read}
 use Rattle.emulator.specs.declared.memory.Write.{Write}
-use Rattle.emulator.proofs.Cases.{if-both}
 use Rattle.emulator.proofs.Fill.{getD-zeros}
 use Rattle.emulator.proofs.Marks.{written-cases, same-or-not, read-sets, write-sets, written-read}
 use Rattle.emulator.proofs.Laws.{accepted-marked}
 use Rattle.emulator.proofs.Runs.{accepted-run}
-use Rattle.emulator.proofs.Keeps.{after-read-keeps, make-keeps, next-keeps, run-keeps}
+use Rattle.emulator.proofs.Keeps.{Leads, kept-leads}
+use Rattle.run_laws.proofs.Simulation.{ReadFits, AccessFits, Same, Simulates, RanTwins, twin-run}
+use Rattle.run_laws.proofs.Logs.{logged-plain}
 
 -- The two runs: the words that they start with are M and N, and the first one's final marks F.
 
@@ -85,22 +86,32 @@ module _ {M N : List ℕ} where
           let set-now : wasWritten (getD (markWrite (m .marks) a) b 0) ≡ 1 = rw s (ap wasWritten (getD-set-same (m .marks) a (writeMark (markAt m a)) 0 lm) ∙ write-sets (markAt m a)) in
           omega arith
 
--- two accesses, two turns, and two ends of runs, that differ in memory alone
-pub record TwinAccess (M N : List ℕ) {A : Type 0} (x y : Accessed A) : Type 0 where
-  pub same : y .answer ≡ x .answer
-  pub alike : Alike M N (x .memory) (y .memory)
-
-pub record Twins (M N : List ℕ) (t u : Turn) : Type 0 where
-  pub same : u ≡ turn (t .outcome) (t .core) (u .memory)
-  pub alike : Alike M N (t .memory) (u .memory)
-
-pub record RanTwins (M N : List ℕ) (r q : Ran) : Type 0 where
-  pub same : q ≡ ran (r .end) (r .steps) (r .core) (q .memory)
-  pub alike : Alike M N (r .memory) (q .memory)
-
 -- what the first run has marked as read by now, its final marks have
 abbrev Seen : List ℕ → Memory → Type 0
 Seen F m = Below wasRead (m .marks) F
+
+seen-leads : (F : List ℕ) → Leads memoryStore (λ l m l′ m′. Seen F m′ → Seen F m)
+seen-leads F =
+    record {
+      same = λ l m h. h;
+      next = λ p q h. p (q h);
+      read = λ p l m a h b e. h b (kept-leads .read p l m a .read b e);
+      write = λ l m a v h b e. h b (kept-leads .write l m a v .read b e);
+    }
+
+-- nothing needs to be known of a word
+abbrev Any : ℕ → Type 0
+Any w = Unit {0}
+
+any-read : (r : Read) → ReadFits Any r
+any-read (Read.Word w) = tt
+any-read (Read.Stopped s) = tt
+
+any-access : (x : Access) → AccessFits Any x
+any-access none = tt
+any-access (load a r up) = tt
+any-access (store a v) = tt
+any-access (stop s) = tt
 
 module _ {M N : List ℕ} (F : List ℕ) (agree : (a : ℕ) → wasRead (getD F a 0) ≡ 1 → getD M a 0 ≡ getD N a 0) where
   -- a word that is read is the same in both
@@ -117,127 +128,100 @@ module _ {M N : List ℕ} (F : List ℕ) (agree : (a : ℕ) → wasRead (getD F 
       noted : wasWritten (markAt m a) ≡ 0 → wasRead (getD (markRead (m .marks) a) a 0) ≡ 1
       noted z = ap wasRead (getD-set-same (m .marks) a (readMark (markAt m a)) 0 lm) ∙ read-sets (markAt m a) z
 
-  twin-read : {m m′ : Memory} (a : ℕ) → Alike M N m m′ → Seen F (readOf m a .memory) → TwinAccess M N (readOf m a) (readOf m′ a)
+  twin-read : (m m′ : Memory) (a : ℕ) → Alike M N m m′ → Seen F (readOf m a .memory) → Same (readOf m a) (readOf m′ a) (Alike M N)
   unfolding readOf
-  twin-read {m} {m′} a h below =
-      if-both (λ (x y : Accessed Read). Seen F (x .memory) → TwinAccess M N x y) (ltb a (length (m .words))) (ltb a (length (m′ .words)))
+  twin-read m m′ a h below =
+      if-both (λ (x y : Accessed Memory Read). Seen F (x .memory) → Same x y (Alike M N)) (ltb a (length (m .words))) (ltb a (length (m′ .words)))
       (ap (λ (n : ℕ). ltb a n) (h .sizes))
-      (λ e low. record { same = ap Read.Word (sym (same-word a (ltb-true _ _ e) h low)); alike = alike-read a h })
-      (λ e low. record { same = refl; alike = h })
+      (λ e low. record { answer = ap Read.Word (sym (same-word a (ltb-true _ _ e) h low)); kept = alike-read a h })
+      (λ e low. record { answer = refl; kept = h })
       below
 
-  twin-write : {m m′ : Memory} (a v : ℕ) → Alike M N m m′ → TwinAccess M N (writeOf m a v) (writeOf m′ a v)
+  twin-write : (m m′ : Memory) (a v : ℕ) → Alike M N m m′ → Same (writeOf m a v) (writeOf m′ a v) (Alike M N)
   unfolding writeOf
-  twin-write {m} {m′} a v h =
-      if-both (TwinAccess M N) (ltb a (length (m .words))) (ltb a (length (m′ .words))) (ap (λ (n : ℕ). ltb a n) (h .sizes))
-      (λ e. record { same = refl; alike = alike-write a v (ltb-true _ _ e) h })
-      (λ e. record { same = refl; alike = h })
+  twin-write m m′ a v h =
+      if-both (λ (x y : Accessed Memory Write). Same x y (Alike M N)) (ltb a (length (m .words))) (ltb a (length (m′ .words))) (ap (λ (n : ℕ). ltb a n) (h .sizes))
+      (λ e. record { answer = refl; kept = alike-write a v (ltb-true _ _ e) h })
+      (λ e. record { answer = refl; kept = h })
 
-  -- what follows twin accesses
-  after-twins : {x y : Accessed Read} (c : Core) {more : ℕ → Memory → Turn}
-      → ((w : ℕ) (m m′ : Memory) → Alike M N m m′ → Seen F (more w m .memory) → Twins M N (more w m) (more w m′))
-      → TwinAccess M N x y → Seen F (afterRead x c more .memory) → Twins M N (afterRead x c more) (afterRead y c more)
-  after-twins {x} {y} c {more} h tw below =
-      subst (λ (r : Read). Twins M N (afterRead x c more) (onWord more c (y .memory) r)) (sym (tw .same)) (by-answer (x .answer) below)
+  twins : (plan : Core → ℕ → Plan) → Simulates memoryStore memoryStore plan Any (λ c. Unit {0}) (λ l. Alike M N) (λ l. Seen F)
+  twins plan =
+      record {
+        read = λ p l m m′ a. twin-read m m′ a;
+        read-fits = λ l m m′ a h. any-read (readOf m a .answer);
+        write = λ l m m′ a v _. twin-write m m′ a v;
+        seen = seen-leads F;
+        plan-fits = λ c w _ _. tt;
+        access-fits = λ c w _ _. any-access (plan (advanced c) w .access);
+        load-fits = λ c r up w _ _. tt;
+      }
+
+-- two runs in one setting
+module _ (plan : Core → ℕ → Plan) (given : Setting) (c : Core) (limit : ℕ) (m m′ : Memory) (ok : refusalOf m ≡ 0) (ok′ : refusalOf m′ ≡ 0)
+    (sizes : length (m .words) ≡ length (m′ .words)) where
+  zeros : List ℕ
+  zeros = replicate (length (m .marks)) 0
+
+  zero-bit : (a : ℕ) → wasWritten (getD zeros a 0) ≡ 1 → ⊥
+  unfolding zeros
+  zero-bit a e = let none : wasWritten (getD zeros a 0) ≡ 0 = ap wasWritten (getD-zeros (length (m .marks)) a) in omega arith
+
+  start : Alike (m .words) (m′ .words) (unmarked m) (unmarked m′)
+  unfolding zeros
+  start =
+      record {
+        marks = ap (λ (n : ℕ). replicate n 0) (accepted-marked m′ ok′ ∙ (sym sizes ∙ sym (accepted-marked m ok)));
+        sizes = sizes;
+        begun = refl;
+        marked = length-replicate (length (m .marks)) 0 ∙ accepted-marked m ok;
+        written = λ a e. absurd (zero-bit a e);
+        first = λ a e. refl;
+        second = λ a e. refl;
+      }
+
+  whole : {r q : Logged (Ran Memory)} → q ≡ logged (ran (r .result .end) (r .result .steps) (r .result .core) (q .result .memory)) (r .log)
+      → Alike (m .words) (m′ .words) (r .result .memory) (q .result .memory) → AgreeLogged m m′ r q
+  whole same alike =
+      record {
+        runs =
+            record {
+              end = ap (λ (x : Logged (Ran Memory)). x .result .end) same;
+              steps = ap (λ (x : Logged (Ran Memory)). x .result .steps) same;
+              core = ap (λ (x : Logged (Ran Memory)). x .result .core) same;
+              marks = alike .marks;
+              written = λ a e. sym (alike .written a e);
+              first-kept = alike .first;
+              second-kept = λ a e. alike .second a (ap (λ (l : List ℕ). wasWritten (getD l a 0)) (sym (alike .marks)) ∙ e);
+              first-length = alike .begun;
+              second-length = sym (alike .sizes) ∙ (alike .begun ∙ sizes);
+              marks-length = alike .marked ∙ alike .begun;
+            };
+        logs = ap (λ (x : Logged (Ran Memory)). x .log) same;
+      }
+
+  in-one-setting : ((a : ℕ) → wasRead (markAt (runIn plan given c m limit .result .memory) a) ≡ 1 → wordAt m a ≡ wordAt m′ a)
+      → AgreeLogged m m′ (runIn plan given c m limit) (runIn plan given c m′ limit)
+  in-one-setting agree =
+      rw (accepted-run plan given c m limit ok, accepted-run plan given c m′ limit ok′)
+      (let t = twin-run memoryStore memoryStore plan Any (λ d. Unit {0}) (λ l. Alike (m .words) (m′ .words)) (λ l. Seen F) (twins F agree₁ plan) given limit 0 c (unmarked m) (unmarked m′) [] tt start (λ a e. e) in
+      whole (t .same) (t .alike))
     where
-      by-answer : (r : Read) → Seen F (onWord more c (x .memory) r .memory) → Twins M N (onWord more c (x .memory) r) (onWord more c (y .memory) r)
-      by-answer (Read.Word w) low = h w (x .memory) (y .memory) (tw .alike) low
-      by-answer (Read.Stopped s) low = record { same = refl; alike = tw .alike }
+      F : List ℕ
+      F = runFrom memoryStore plan given limit 0 c (unmarked m) [] .result .memory .marks
 
-  written-twins : {x y : Accessed Write} (c : Core) → TwinAccess M N x y → Twins M N (afterWrite x c) (afterWrite y c)
-  written-twins {x} {y} c tw =
-      subst (λ (r : Write). Twins M N (afterWrite x c) (onWrite c (y .memory) r)) (sym (tw .same)) (by-answer (x .answer))
-    where
-      by-answer : (r : Write) → Twins M N (onWrite c (x .memory) r) (onWrite c (y .memory) r)
-      by-answer Write.Done = record { same = refl; alike = tw .alike }
-      by-answer (Write.Stopped s) = record { same = refl; alike = tw .alike }
-
-  twin-make : (c : Core) (x : Access) {m m′ : Memory} → Alike M N m m′ → Seen F (makeOf c x m .memory)
-      → Twins M N (makeOf c x m) (makeOf c x m′)
-  twin-make c none h below = record { same = refl; alike = h }
-  twin-make c (load a r up) {m} h below =
-      after-twins c (λ w m₁ m₂ k low. record { same = refl; alike = k })
-      (twin-read a h (λ b e. below b (after-read-keeps (readOf m a) c (λ w. turn stepped (loaded c r up w)) (λ w m₁. make-keeps c none m₁) .read b e)))
-      below
-  twin-make c (store a v) h below = written-twins c (twin-write a v h)
-  twin-make c (stop s) h below = record { same = refl; alike = h }
-
-  twin-next : (more : Core → Memory → Ran) (n : ℕ)
-      → ((c : Core) (m m′ : Memory) → Alike M N m m′ → Seen F (more c m .memory) → RanTwins M N (more c m) (more c m′))
-      → (t u : Turn) → Twins M N t u → Seen F (nextOf more n t .memory) → RanTwins M N (nextOf more n t) (nextOf more n u)
-  twin-next more n more-twin t u tw below =
-      subst (λ (v : Turn). RanTwins M N (nextOf more n t) (nextOf more n v)) (sym (tw .same))
-      (if-both (λ (r q : Ran). Seen F (r .memory) → RanTwins M N r q) (isStepped (t .outcome)) (isStepped (t .outcome)) refl
-      (λ _ low. more-twin (t .core) (t .memory) (u .memory) (tw .alike) low)
-      (λ _ low. record { same = refl; alike = tw .alike })
-      below)
-
-  module _ (plan : Core → ℕ → Plan) where
-    twin-cycle : (c : Core) {m m′ : Memory} → Alike M N m m′ → Seen F (cycleOf plan c m .memory)
-        → Twins M N (cycleOf plan c m) (cycleOf plan c m′)
-    unfolding cycleOf
-    twin-cycle c {m} h below =
-        after-twins c (λ w m₁ m₂ k low. twin-make (plan (advanced c) w .core) (plan (advanced c) w .access) k low)
-        (twin-read (c .ip) h
-        (λ b e. below b (after-read-keeps (fetchOf m (c .ip)) c (λ w. made (plan (advanced c) w)) (λ w m₁. make-keeps (plan (advanced c) w .core) (plan (advanced c) w .access) m₁) .read b e)))
-        below
-
-    twin-run : (k n : ℕ) (c : Core) (m m′ : Memory) → Alike M N m m′ → Seen F (runFrom plan k n c m .memory)
-        → RanTwins M N (runFrom plan k n c m) (runFrom plan k n c m′)
-    unfolding runFrom
-    twin-run zero n c m m′ h below =
-        if-both (λ (r q : Ran). Seen F (r .memory) → RanTwins M N r q) (isHalted c) (isHalted c) refl
-        (λ e low. record { same = refl; alike = h })
-        (λ e low. record { same = refl; alike = h })
-        below
-    twin-run (suc k) n c m m′ h below =
-        if-both (λ (r q : Ran). Seen F (r .memory) → RanTwins M N r q) (isHalted c) (isHalted c) refl
-        (λ e low. record { same = refl; alike = h })
-        (λ e low. twin-next (runFrom plan k (n + 1)) n (twin-run k (n + 1)) (cycleOf plan c m) (cycleOf plan c m′)
-        (twin-cycle c h (λ a b. low a (next-keeps (runFrom plan k (n + 1)) n (run-keeps plan k (n + 1)) (cycleOf plan c m) .read a b)))
-        low)
-        below
+      agree₁ : (a : ℕ) → wasRead (getD F a 0) ≡ 1 → wordAt m a ≡ wordAt m′ a
+      agree₁ = rw (accepted-run plan given c m limit ok) at agree
 
 agreement-of : (plan : Core → ℕ → Plan) → AgreementOf plan
-agreement-of plan c limit m m′ ok ok′ sizes agree =
-    rw (accepted-run plan c m limit ok, accepted-run plan c m′ limit ok′)
-    (whole (twin-run (runFrom plan limit 0 c (unmarked m) .memory .marks) agree₁ plan limit 0 c (unmarked m) (unmarked m′) start (λ a e. e)))
-  where
-    zeros : List ℕ
-    zeros = replicate (length (m .marks)) 0
-
-    agree₁ : (a : ℕ) → wasRead (markAt (runFrom plan limit 0 c (unmarked m) .memory) a) ≡ 1 → wordAt m a ≡ wordAt m′ a
-    agree₁ = rw (accepted-run plan c m limit ok) at agree
-
-    zero-bit : (a : ℕ) → wasWritten (getD zeros a 0) ≡ 1 → ⊥
-    zero-bit a e = let none : wasWritten (getD zeros a 0) ≡ 0 = ap wasWritten (getD-zeros (length (m .marks)) a) in omega arith
-
-    start : Alike (m .words) (m′ .words) (unmarked m) (unmarked m′)
-    start =
-        record {
-          marks = ap (λ (n : ℕ). replicate n 0) (accepted-marked m′ ok′ ∙ (sym sizes ∙ sym (accepted-marked m ok)));
-          sizes = sizes;
-          begun = refl;
-          marked = length-replicate (length (m .marks)) 0 ∙ accepted-marked m ok;
-          written = λ a e. absurd (zero-bit a e);
-          first = λ a e. refl;
-          second = λ a e. refl;
-        }
-
-    whole : {r q : Ran} → RanTwins (m .words) (m′ .words) r q → Agree m m′ r q
-    whole t =
-        record {
-          end = ap (λ (r : Ran). r .end) (t .same);
-          steps = ap (λ (r : Ran). r .steps) (t .same);
-          core = ap (λ (r : Ran). r .core) (t .same);
-          marks = t .alike .marks;
-          written = λ a e. sym (t .alike .written a e);
-          first-kept = t .alike .first;
-          second-kept = λ a e. t .alike .second a (ap (λ (l : List ℕ). wasWritten (getD l a 0)) (sym (t .alike .marks)) ∙ e);
-          first-length = t .alike .begun;
-          second-length = sym (t .alike .sizes) ∙ (t .alike .begun ∙ sizes);
-          marks-length = t .alike .marked ∙ t .alike .begun;
-        }
+agreement-of plan given given′ c limit m m′ ok ok′ sizes (equal-room e) agree =
+    subst (λ (s : Setting). AgreeLogged m m′ (runIn plan given c m limit) (runIn plan s c m′ limit)) (sym e) (in-one-setting plan given c limit m m′ ok ok′ sizes agree)
+agreement-of plan given given′ c limit m m′ ok ok′ sizes (enough-room r q) agree =
+    rw (logged-plain plan given c m limit r, logged-plain plan given′ c m′ limit q)
+    (in-one-setting plan plain c limit m m′ ok ok′ sizes (rw (logged-plain plan given c m limit r) at agree))
 
 pub agreement : Agreement
 agreement = agreement-of planOf
+
+pub plain-agreement : PlainAgreement
+unfolding runOf
+plain-agreement c limit m m′ ok ok′ sizes agree = agreement plain plain c limit m m′ ok ok′ sizes (equal-room refl) agree .runs

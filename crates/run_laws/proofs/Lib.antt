@@ -1,3 +1,5 @@
+pub mod Simulation
+pub mod Logs
 pub mod Agreement
 pub mod Claims
 pub mod Rows

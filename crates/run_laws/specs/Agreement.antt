@@ -1,10 +1,12 @@
--- Two runs agree (document 01, The run): one claim over every two accepted runs of one core and one limit. It rests on the definitions
--- of the machine and mentions no instruction.
+-- Two runs agree (document 01, The run, and document 02, CR 2): one claim over every two accepted runs of one core and one limit. It rests on
+-- the definitions of the machine and mentions no instruction.
 use Prim.Native.Nat.{ℕ}
 use mathlib.Core.Path.{_≡_}
 use lib.ListN.{length, getD}
+use Rattle.emulator.specs.Log.{Logged}
 use Rattle.emulator.specs.Memory.{Memory, wasRead, wasWritten}
-use Rattle.emulator.specs.Machine.{Plan, planOf, Ran, refusalOf, runOf}
+use Rattle.emulator.specs.Outcome.{ended}
+use Rattle.emulator.specs.Machine.{Plan, planOf, Ran, Setting, refusalOf, runIn, runOf}
 use Rattle.emulator.specs.declared.core.Core.{Core}
 
 -- the word, and the mark, at an address
@@ -15,7 +17,7 @@ abbrev pub markAt : Memory → ℕ → ℕ
 markAt m a = getD (m .marks) a 0
 
 -- What is equal when both runs have ended: the first, r, started with the memory m, the second, q, with m′.
-pub record Agree (m m′ : Memory) (r q : Ran) : Type 0 where
+pub record Agree (m m′ : Memory) (r q : Ran Memory) : Type 0 where
   -- the end, with its number and its value
   pub end : q .end ≡ r .end
   -- the steps counted
@@ -34,15 +36,38 @@ pub record Agree (m m′ : Memory) (r q : Ran) : Type 0 where
   pub second-length : length (q .memory .words) ≡ length (m′ .words)
   pub marks-length : length (r .memory .marks) ≡ length (m .words)
 
+-- the same, and the logs
+pub record AgreeLogged (m m′ : Memory) (r q : Logged (Ran Memory)) : Type 0 where
+  pub runs : Agree m m′ (r .result) (q .result)
+  pub logs : q .log ≡ r .log
+
+-- a run that doesn't end by 30
+abbrev pub HasRoom : Logged (Ran Memory) → Type 0
+HasRoom r = r .result .end ≡ ended 30 → ⊥
+
+-- two runs are compared that both log with equal room, or both don't log; or of which neither ends by 30
+pub data Compared (given given′ : Setting) (r q : Logged (Ran Memory)) : Type 0 where
+  equal-room : given′ ≡ given → Compared given given′ r q
+  enough-room : HasRoom r → HasRoom q → Compared given given′ r q
+
 -- No host test refuses the runs, whatever marks they are lent; the memories are equally long, and equal as they stand when the runs
 -- start wherever the first run's final mark includes 1.
 abbrev pub AgreementOf : (Core → ℕ → Plan) → Type 0
 AgreementOf plan =
-    (c : Core) (limit : ℕ) (m m′ : Memory)
+    (given given′ : Setting) (c : Core) (limit : ℕ) (m m′ : Memory)
     → refusalOf m ≡ 0 → refusalOf m′ ≡ 0 → length (m .words) ≡ length (m′ .words)
-    → ((a : ℕ) → wasRead (markAt (runOf plan c m limit .memory) a) ≡ 1 → wordAt m a ≡ wordAt m′ a)
-    → Agree m m′ (runOf plan c m limit) (runOf plan c m′ limit)
+    → Compared given given′ (runIn plan given c m limit) (runIn plan given′ c m′ limit)
+    → ((a : ℕ) → wasRead (markAt (runIn plan given c m limit .result .memory) a) ≡ 1 → wordAt m a ≡ wordAt m′ a)
+    → AgreeLogged m m′ (runIn plan given c m limit) (runIn plan given′ c m′ limit)
 
 -- the agreement of this machine's runs
 abbrev pub Agreement : Type 0
 Agreement = AgreementOf planOf
+
+-- and its instance for two runs without a log, document 01's third demand
+abbrev pub PlainAgreement : Type 0
+PlainAgreement =
+    (c : Core) (limit : ℕ) (m m′ : Memory)
+    → refusalOf m ≡ 0 → refusalOf m′ ≡ 0 → length (m .words) ≡ length (m′ .words)
+    → ((a : ℕ) → wasRead (markAt (runOf planOf c m limit .memory) a) ≡ 1 → wordAt m a ≡ wordAt m′ a)
+    → Agree m m′ (runOf planOf c m limit) (runOf planOf c m′ limit)

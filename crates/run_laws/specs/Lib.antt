@@ -1,3 +1,4 @@
 pub mod Agreement
 pub mod Claims
+pub mod Logs
 pub mod Rows

@@ -12,7 +12,7 @@ use Rattle.instructions.specs.declared.ins.Instruction.the-variants.{Mov, DMov,
 use Rattle.instructions.specs.declared.ins.encoding.Decoded.{Decoded}
 use Rattle.instructions.specs.declared.ins.encoding.Decoded.the-variants.{Ins, Undecodable}
 use Rattle.emulator.specs.Core.{coreOf, newCore}
-use Rattle.emulator.specs.Memory.{lent}
+use Rattle.emulator.specs.Memory.{Memory, lent}
 use Rattle.emulator.specs.Outcome.{Outcome, stepped, halted, limit, fault}
 use Rattle.emulator.specs.Machine.{planOf, Turn, stepOf, Ran, runOf}
 use Rattle.emulator.specs.declared.core.Core.{Core}
@@ -28,14 +28,14 @@ pub data Seen : Type 0 where
 abbrev pub core : ℕ → ℕ → ℕ → Core
 core a b ip = coreOf (a ∷ b ∷ replicate 6 0) ip 0 0xFFFF 0
 
-abbrev pub stepSeen : Turn → Seen
+abbrev pub stepSeen : Turn Memory → Seen
 stepSeen t = step (t .outcome) (t .core)
 
 -- a step of the word w, which stands at address 0, with a and b in r0 and r1
 abbrev pub stepped-at-0 : ℕ → ℕ → ℕ → Seen
 stepped-at-0 w a b = stepSeen (stepOf planOf (core a b 0) (lent (w ∷ []) (0 ∷ [])))
 
-abbrev pub runSeen : Ran → Seen
+abbrev pub runSeen : Ran Memory → Seen
 runSeen r = run (r .end) (r .steps) (r .core) (r .memory .marks)
 
 -- a fresh core pushes, in memory of 1 + more words

@@ -9,11 +9,11 @@ use lib.Dec.{eqb}
 use lib.ListN.{length, getD, set, take, drop, length-append, drop-of-length-le}
 use lib.Seq.{sets, take-append-seam}
 use borrow.Author.Tests.{lt-ltb, le-ltb, eq-eqb, ne-eqb}
-use Rattle.emulator.proofs.Cases.{by-test}
+use Rattle.instructions.proofs.Cases.{by-test}
 use Rattle.sheet.specs.declared.write.Written.{Written}
 use Rattle.sheet.specs.Write.{Wrote, wrote}
 use Rattle.sheet.specs.Input.{lowFirst, recordsOf, inputRefusal, inputOf}
-use Rattle.sheet.proofs.Stores.{sets-front, four}
+use Rattle.emulator.proofs.Stores.{sets-front, four}
 
 module _ (bytes out out₀ : List ℕ) (at n : ℕ) where
   -- the next record

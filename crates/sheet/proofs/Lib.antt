@@ -1,4 +1,3 @@
-pub mod Stores
 pub mod FieldLaws
 pub mod LoadLaws
 pub mod InputLaws

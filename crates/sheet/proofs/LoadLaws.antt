@@ -12,7 +12,7 @@ use Rattle.emulator.specs.Core.{newCore}
 use Rattle.emulator.specs.Memory.{refusedLength}
 use Rattle.sheet.specs.declared.load.Loaded.{Loaded}
 use Rattle.sheet.specs.Load.{left, loadWordsOf}
-use Rattle.sheet.proofs.Stores.{sets-front, drop-replicate}
+use Rattle.emulator.proofs.Stores.{sets-front, drop-replicate}
 
 -- a word list
 module _ (words mem : List ℕ) {a : Bool} {c : Core} (asked : a ≡ refusedLength (length mem)) (fresh : c ≡ newCore) where

@@ -12,14 +12,14 @@ use Rattle.instructions.specs.declared.reg.SpecialPurposeRegister.{SpecialPurpo
 use Rattle.instructions.specs.declared.reg.SpecialPurposeRegister.the-variants.{IP, RP, SP, EF}
 use Rattle.emulator.specs.declared.core.Core.{Core}
 use Rattle.emulator.specs.Core.{newCore, readSpr}
-use Rattle.emulator.proofs.Cases.{by-test, if-elim}
+use Rattle.instructions.proofs.Cases.{by-test, if-elim}
 use Rattle.sheet.specs.declared.fields.Record.the-variants.{Place, Word, Preset, End}
 use Rattle.sheet.specs.Record.{register, low, count, recordOf, registerOf, withRegister}
 use Rattle.sheet.specs.Load.{Reading, readFrom}
 use Rattle.sheet.specs.Write.{placeRecord, wordRecord, presetRecord, endRecord, presetsFrom, recordsAt, stretchesFrom, nonzero, wordsIn}
 use Rattle.sheet.specs.RoundTrip.{Words, WholeCore}
 use Rattle.sheet.proofs.FieldLaws as fields
-use Rattle.sheet.proofs.Stores.{four}
+use Rattle.emulator.proofs.Stores.{four}
 use Rattle.sheet.proofs.WriteLaws.{at-zero, at-first, at-within, counts-none, counts-one}
 
 -- each record has the kind and the fields that it was made of

@@ -17,7 +17,7 @@ use Rattle.emulator.specs.Memory.{refusedLength}
 use Rattle.sheet.specs.declared.write.Written.{Written}
 use Rattle.sheet.specs.Record.{registerOf}
 use Rattle.sheet.specs.Write.{wrote, placeRecord, wordRecord, presetRecord, endRecord, presetsFrom, recordsAt, stretchesFrom, nonzero, wordsIn, sheetOf, writeSheetOf}
-use Rattle.sheet.proofs.Stores.{sets-append, sets-front}
+use Rattle.emulator.proofs.Stores.{sets-append, sets-front}
 
 -- the records of one word
 module _ (a b v : ℕ) where

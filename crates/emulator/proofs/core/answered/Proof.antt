@@ -1,6 +1,6 @@
 -- `emulator::core::answered` meets its contract: a law for each way.
 use borrow.Author.Needs.{needs}
-use Rattle.emulator.proofs.Runs.{answered-stepped, answered-halted, answered-limit, answered-fault, answered-refused}
+use Rattle.emulator.proofs.Runs.{answered-stepped, answered-halted, answered-limit, answered-fault, answered-refused, answered-log}
 use Rattle.emulator.proofs.core.answered.Statement.{statement}
 use Rattle.emulator.proofs.core.answered.Tie as tie
 
@@ -13,7 +13,9 @@ answered-spec =
     (λ c. search needs)
     (λ c. search needs)
     (λ c. search needs)
+    (λ c. search needs)
     (λ c. search answered-halted)
     (λ c. search answered-limit)
     (λ c. search answered-fault)
-    (λ c. search answered-refused))
+    (λ c. search answered-refused)
+    (λ c. search answered-log))

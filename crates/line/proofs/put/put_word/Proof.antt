@@ -5,7 +5,7 @@ use native.Mathlib.Omega.{arith}
 use lib.ListN.{length, drop, length-set}
 use lib.Seq.{sets}
 use borrow.Author.Needs.{needs}
-use Rattle.sheet.proofs.Stores.{sets-next}
+use Rattle.emulator.proofs.Stores.{sets-next}
 use Rattle.line.proofs.PutLaws.{put-all}
 use Rattle.line.proofs.put.put_word.Statement.{statement}
 use Rattle.line.proofs.put.put_word.Tie as tie

@@ -2,7 +2,7 @@
 use native.Mathlib.Omega.{arith}
 use borrow.Author.Needs.{needs}
 use Rattle.line.proofs.PutLaws.{put-whole}
-use Rattle.line.proofs.LineLaws.{put-halted, put-limit, put-fault, put-host}
+use Rattle.line.proofs.LineLaws.{put-halted, put-limit, put-fault, put-host, put-log}
 use Rattle.line.proofs.run.put_run.Statement.{statement}
 use Rattle.line.proofs.run.put_run.Tie as tie
 
@@ -13,8 +13,9 @@ put-run-spec =
     (λ c. search needs) (λ c. search needs) (λ c κs. search needs) (λ c κs. search needs) (λ c. search needs)
     (λ c. search needs) (λ c κs. search needs) (λ c κs. search needs) (λ c. search needs) (λ c κs. search needs)
     (λ c. search needs) (λ c. search needs) (λ c κs. search needs) (λ c. search needs) (λ c κs. search needs)
-    (λ c κs. search needs) (λ c. search needs) (λ c κs. search needs)
+    (λ c κs. search needs) (λ c. search needs) (λ c κs. search needs) (λ c. search needs)
     (λ c. put-whole (omega arith) (omega arith) (search put-halted))
     (λ c. put-whole (omega arith) (omega arith) (search put-limit))
     (λ c. put-whole (omega arith) (omega arith) (search put-fault))
-    (λ c. search put-host))
+    (λ c. search put-host)
+    (λ c. search put-log))

@@ -5,7 +5,7 @@ use native.Mathlib.Omega.{arith}
 use lib.ListN.{length, drop, length-set}
 use lib.Seq.{sets}
 use borrow.Author.Needs.{needs}
-use Rattle.sheet.proofs.Stores.{sets-next, sets-done}
+use Rattle.emulator.proofs.Stores.{sets-next, sets-done}
 use Rattle.sheet.proofs.memory.copy.Statement.{statement}
 use Rattle.sheet.proofs.memory.copy.Tie as tie
 
