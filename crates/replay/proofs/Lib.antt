@@ -1,0 +1,3 @@
+pub mod Tapes
+pub mod Goes
+pub mod Replays
