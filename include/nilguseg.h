@@ -1,9 +1,10 @@
-/* Nilguseg: the Delta Null interpreter, for C hosts. Link with libnilguseg.a and, for decode and encode, libnilguseg_words.a.
+/* Nilguseg: the Delta Null interpreter, for C hosts. Link with libnilguseg.a and, for decode and encode, libnilguseg_words.a,
+ * for the logged run, libnilguseg_log.a, for the replay, libnilguseg_replay.a.
  *
- * The numbers of faults and refusals are those of document 01; the order of word lists is that of document 02.
+ * The numbers of faults and refusals are those of document 01; the order of word lists and the log are those of document 02.
  *
- * Required of every call: each pointer is valid for its length (one core, else as many elements as the length
- * beside it says), and what is lent for writing overlaps nothing else that is lent.
+ * Required of every call: each pointer is valid for its length (one core or one number, else as many elements as
+ * the length beside it says), and what is lent for writing overlaps nothing else that is lent.
  * Nothing else is required: lengths and contents that do not fit are refused. No call keeps a pointer.
  *
  * Lengths count elements, not bytes. An answer's parts that a line below does not name are 0.
@@ -28,13 +29,14 @@ typedef struct nilguseg_core {
     uint16_t ef; /* bit 0 is halt, bit 1 is condition */
 } nilguseg_core;
 
-/* How a step or a run came out: one numbering for both. Numbers above 4 are free for further ends. */
+/* How a step or a run came out: one numbering for both. Numbers above 5 are free for further ends. */
 enum {
     NILGUSEG_STEPPED = 0, /* of a step: an instruction was executed */
     NILGUSEG_HALTED = 1,  /* the core was halted already, or the run halted it */
     NILGUSEG_LIMIT = 2,   /* of a run: its limit of steps was reached */
     NILGUSEG_FAULT = 3,   /* the words caused a stop */
-    NILGUSEG_REFUSED = 4  /* the lengths do not fit; nothing was changed */
+    NILGUSEG_REFUSED = 4, /* the lengths do not fit; nothing was changed */
+    NILGUSEG_LOG = 5      /* of a logged run or a replay: the log ended it */
 };
 
 /* The kinds of instruction, each with its operands: first, second. */
@@ -121,6 +123,27 @@ uint32_t nilguseg_step(nilguseg_core *core, uint16_t *memory, size_t memory_len,
  * 2 (written). Faults and refusals are those of nilguseg_step; a refused run changes nothing and has 0 steps. */
 uint64_t nilguseg_run(nilguseg_core *core, uint16_t *memory, size_t memory_len, uint8_t *marks, size_t marks_len,
                       uint32_t limit);
+
+/* nilguseg_run with a log: two words for each read, in order. Their other bits are 0.
+ *   bits 31..28  4, bit 16 set for a fetch, bits 15..0 the address
+ *   bits 31..28  5, bits 15..0 the word
+ * A read out of range is not logged; the fetch of a word that faults is. *logged becomes the number of log words, 0 where
+ * refused; the log past them is unchanged. Answers as nilguseg_run, or, tested after halt and the limit:
+ *   bits 63..56  NILGUSEG_LOG
+ *   bits 55..48  30: fewer than four log words are free
+ *   bits 31..0   the steps counted
+ * A run that ends so leaves core, memory and marks as nilguseg_run does with the limit set to those steps. Any other is that
+ * of nilguseg_run in everything. Four log words for each step of the limit always suffice. */
+uint64_t nilguseg_run_logged(nilguseg_core *core, uint16_t *memory, size_t memory_len, uint8_t *marks, size_t marks_len,
+                             uint32_t limit, uint32_t *log, size_t log_len, size_t *logged);
+
+/* Sees a logged run again, without its memory: takes the core that it started with, its memory_len as size, its limit and
+ * the words of its log. If the run was not refused and did not end by 30, answers as it did, and the core becomes the one
+ * that it left. The word of a read is taken as logged. Other answers, with 0 steps and the core unchanged:
+ *   bits 63..56  NILGUSEG_LOG or _REFUSED
+ *   bits 55..48  with _LOG 31: the next two log words are not the read that is made, the log is over too soon, or words are
+ *                left over; with _REFUSED 1: size is not 1 to 65,536 */
+uint64_t nilguseg_replay(nilguseg_core *core, size_t size, uint32_t limit, const uint32_t *log, size_t log_len);
 
 /* Zeroes memory, copies the words to its beginning and makes the core a fresh one. The answer is 0.
  * Refused, with memory unchanged and the core fresh; the answer is the number:

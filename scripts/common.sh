@@ -1,6 +1,7 @@
 # Sourced by the scripts beside it: settings, and what to do where something is missing.
 #
-# NILGUSEG_LIB        a folder with libnilguseg.a and libnilguseg_words.a; by default target/staticlib, built by `rt staticlib`
+# NILGUSEG_LIB        a folder with the library's parts, libnilguseg.a and the three others; by default target/staticlib, built by
+#                     `rt staticlib`
 # DELTA_NULL_SOURCES  a folder with the published Rust; by default ../shared/docs
 
 absolute() { [ -z "$1" ] || realpath -m "$1"; }
@@ -23,10 +24,12 @@ need_cc() {
     have cc || skip_all "all, for there is no cc on the path, by which cargo links too"
 }
 
-# Builds the library's two parts unless a folder with them was given.
+parts="nilguseg nilguseg_words nilguseg_log nilguseg_replay"
+
+# Builds the library's parts unless a folder with them was given.
 need_library() {
     local part
-    for part in nilguseg nilguseg_words; do
+    for part in $parts; do
         if [ -z "$library_given" ] && have rt; then
             rt staticlib $part
         fi

@@ -1,5 +1,5 @@
-/* The worked example of document 01: putl r0 3, hlt; once from a word list, once from a rule sheet. Then word lists compared.
- * Ends with status 1 if anything is not as the documents say. */
+/* The worked example of document 01: putl r0 3, hlt; once from a word list, once from a rule sheet. Then its run logged and seen
+ * again, and word lists compared. Ends with status 1 if anything is not as the documents say. */
 #include <stdbool.h>
 #include <stddef.h>
 #include <stdio.h>
@@ -114,6 +114,41 @@ static void from_sheet(void)
     expect(nilguseg_load_sheet(&core, sheet, 2, memory, 2) == 24, "without its end record it is refused with 24");
 }
 
+/* The example with a log, and seen again once its memory is lost. */
+static void logged_and_replayed(void)
+{
+    static const uint32_t reads[4] = {0x40010000, 0x50001003, 0x40010001, 0x5000FFFF};
+    nilguseg_core fresh = {.sp = 0xFFFF}, core = fresh, seen = fresh;
+    uint16_t memory[2] = {0x1003, 0xFFFF};
+    uint8_t marks[2];
+    uint32_t log[8] = {[4] = 7, [5] = 7, [6] = 7, [7] = 7};
+    size_t logged = 99;
+
+    puts("-- a logged run and its replay");
+    expect(nilguseg_run_logged(&core, memory, 2, marks, 1, 2, log, 8, &logged) == 0x0402000000000000 && logged == 0,
+           "with too few marks it is refused, and nothing is logged");
+    uint64_t answer = nilguseg_run_logged(&core, memory, 2, marks, 2, 2, log, 8, &logged);
+    print_line(answer, &core);
+    expect(answer == ((uint64_t)NILGUSEG_HALTED << 56 | 2), "it halts after 2 steps");
+    expect(logged == 4 && memcmp(log, reads, sizeof reads) == 0, "two fetches are logged, two words each");
+    expect(log[4] == 7 && log[5] == 7 && log[6] == 7 && log[7] == 7, "and the log past them is unchanged");
+
+    memset(memory, 0, sizeof memory);
+    expect(nilguseg_replay(&seen, 2, 2, log, logged) == answer && same_core(&seen, &core), "the replay is the same");
+    seen = fresh;
+    log[1]++;
+    expect(nilguseg_replay(&seen, 2, 2, log, logged) == answer && seen.r[0] == 4, "with 0x1004 logged it leaves r0 4");
+    seen = fresh;
+    expect(nilguseg_replay(&seen, 2, 2, log, 3) == 0x051F000000000000 && same_core(&seen, &fresh),
+           "without the last log word: 5, 31, and the core unchanged");
+    expect(nilguseg_replay(&seen, 0, 2, log, 4) == 0x0401000000000000, "with size 0: 4, 1");
+
+    core = fresh;
+    memory[0] = 0x60FF;
+    expect(nilguseg_run_logged(&core, memory, 2, marks, 2, 9, log, 8, &logged) == 0x051E000000000003 && logged == 6,
+           "a loop has no room after 3 steps: 5, 30");
+}
+
 /* The lists 3 1, 3 1 0 and 3 0 7 9: the last comes first, and the others are equal. */
 static void compared(void)
 {
@@ -136,6 +171,7 @@ int main(void)
     from_words();
     from_sheet();
     by_number();
+    logged_and_replayed();
     compared();
     return all_as_expected ? 0 : 1;
 }

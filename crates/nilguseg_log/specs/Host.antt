@@ -1,9 +1,8 @@
--- What a host sees of a logged run and of a replay (document 02, CR 2, in the layout of the header).
+-- What a host sees of a logged run (document 02, CR 2, in the layout of the header).
 use Prim.Native.Nat.{ℕ, _+_, _*_, _^_}
 use mathlib.Core.List.{[], _∷_}
 use Rattle.emulator.specs.Machine.{RanLogged}
 use Rattle.nilguseg.specs.Host.{wordsOf, outcomeNumber, Call, call}
-use Rattle.replay.specs.Replay.{Replayed}
 
 -- the end from bit 32 on, the steps in bits 31..0, as for a run; the log, and the number of its words
 abbrev pub loggedCall : RanLogged → Call
@@ -11,6 +10,3 @@ loggedCall t =
     let r = t .run in
     call (outcomeNumber (r .end) * 2 ^ 32 + r .steps)
     (wordsOf (r .core) ∷ r .memory .words ∷ r .memory .marks ∷ t .log .buffer ∷ (t .log .count ∷ []) ∷ [])
-
-abbrev pub replayCall : Replayed → Call
-replayCall t = call (outcomeNumber (t .end) * 2 ^ 32 + t .steps) (wordsOf (t .core) ∷ [])

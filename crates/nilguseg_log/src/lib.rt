@@ -1,16 +1,14 @@
-// What C and Rust hosts call to run with a log, and to see a run again from its log. They stand in a library of their own: where the loop of
-// cycles is called with a log and without one, each step tests which it is, and the plain run would lose by it.
+// What C and Rust hosts call to run with a log. It stands in a library of its own: where the loop of cycles is called with a log and without
+// one, each step tests which it is, and the plain run would lose by it.
 use nilguseg::core_of;
 use nilguseg::end_number;
 use nilguseg::put_core;
-use replay::replay;
 ghost use mathlib.Core.List.{[], _∷_};
 ghost use mathlib.Core.Path.{_≡_};
 ghost use Rattle.emulator.specs.Memory.{lent};
 ghost use Rattle.emulator.specs.Machine.{planOf, runLoggedOf};
 ghost use Rattle.nilguseg.specs.Host.{coreFrom, call};
-ghost use Rattle.nilguseg_log.specs.Host.{loggedCall, replayCall};
-ghost use Rattle.replay.specs.Replay.{replayOf};
+ghost use Rattle.nilguseg_log.specs.Host.{loggedCall};
 
 // A run of the core, of at most `limit` steps, with a log. `logged` gets the number of its words.
 #[no_mangle]
@@ -29,17 +27,5 @@ pub extern "C" fn nilguseg_run_logged(
     let end = run.end;
     put_core(after, core);
     *logged = run.logged;
-    end_number(end) as u64 * 0x100000000 + run.steps as u64
-}
-
-// The run that made the log, seen again: `size` is the length of the memory that it ran on.
-#[no_mangle]
-pub extern "C" fn nilguseg_replay(core: &mut [u16; 12], size: usize, limit: u32, log: &[u32]) -> u64
-    ensures { λ r. ⌜ call r (now (core .exit) ∷ []) ≡ replayCall (replayOf planOf (coreFrom (now (core .entry))) size limit (now (log .entry))) ⌝ }
-{
-    let run = replay(core_of(*core), size, limit, log);
-    let after = run.core;
-    let end = run.end;
-    put_core(after, core);
     end_number(end) as u64 * 0x100000000 + run.steps as u64
 }

@@ -33,7 +33,7 @@ impl Counts {
             Outcome::Halted => 1,
             Outcome::Limit => 2,
             Outcome::Fault(fault) => fault.number as usize,
-            Outcome::Refused(_) => unreachable!("the published Rust refuses nothing"),
+            Outcome::Refused(_) | Outcome::Log(_) => unreachable!("the published Rust refuses nothing and has no log"),
         };
         self.0[slot] += 1;
     }

@@ -49,7 +49,37 @@ impl Core {
         let answer = unsafe {
             ffi::nilguseg_run(self, memory.as_mut_ptr(), memory.len(), marks.as_mut_ptr(), marks.len(), limit)
         };
-        Run { end: outcome((answer >> 32) as u32), steps: answer as u32 }
+        run(answer)
+    }
+
+    /// `run` with a log of its reads: two words each, at the front of `log`. Ends by 30 where fewer than four are free before
+    /// a step; four for each step of the limit always suffice.
+    pub fn run_logged(&mut self, memory: &mut [u16], marks: &mut [u8], limit: u32, log: &mut [u32]) -> LoggedRun {
+        let mut logged = 0;
+        // SAFETY: as in `step`, and `logged` is a number of its own.
+        let answer = unsafe {
+            ffi::nilguseg_run_logged(
+                self,
+                memory.as_mut_ptr(),
+                memory.len(),
+                marks.as_mut_ptr(),
+                marks.len(),
+                limit,
+                log.as_mut_ptr(),
+                log.len(),
+                &mut logged,
+            )
+        };
+        let Run { end, steps } = run(answer);
+        LoggedRun { end, steps, logged }
+    }
+
+    /// A logged run seen again, of the core that it started with, the length of its memory, its limit and the words of its log:
+    /// its end and steps, and the core becomes the one that it left. Where its reads are not the log's, the end is 31 and the
+    /// core stays.
+    pub fn replay(&mut self, size: usize, limit: u32, log: &[u32]) -> Run {
+        // SAFETY: as in `step`.
+        run(unsafe { ffi::nilguseg_replay(self, size, limit, log.as_ptr(), log.len()) })
     }
 
     /// Zeroes memory and copies the words to its beginning. The core becomes a fresh one, also where it refuses.
@@ -107,6 +137,10 @@ fn ordering(answer: u32) -> Ordering {
     }
 }
 
+fn run(answer: u64) -> Run {
+    Run { end: outcome((answer >> 32) as u32), steps: answer as u32 }
+}
+
 fn outcome(answer: u32) -> Outcome {
     let [outcome, number, high, low] = answer.to_be_bytes();
     match (outcome, number, u16::from_be_bytes([high, low])) {
@@ -115,6 +149,7 @@ fn outcome(answer: u32) -> Outcome {
         (ffi::LIMIT, 0, 0) => Outcome::Limit,
         (ffi::FAULT, number, value) => Outcome::Fault(Fault { number, value }),
         (ffi::REFUSED, number, 0) => Outcome::Refused(Refusal(number)),
+        (ffi::LOG, number, 0) => Outcome::Log(number),
         other => panic!("no call answers {other:?}"),
     }
 }

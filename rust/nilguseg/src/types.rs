@@ -60,6 +60,8 @@ pub enum Outcome {
     Limit,
     Fault(Fault),
     Refused(Refusal),
+    /// The log ended it: 30, a logged run had fewer than four of its words free, or 31, a replay's reads are not its words.
+    Log(u8),
 }
 
 /// What a run answers. A step that faults is not counted.
@@ -68,6 +70,16 @@ pub struct Run {
     /// Never `Stepped`.
     pub end: Outcome,
     pub steps: u32,
+}
+
+/// What a logged run answers.
+#[derive(Debug, Clone, Copy, PartialEq, Eq)]
+pub struct LoggedRun {
+    /// Never `Stepped`.
+    pub end: Outcome,
+    pub steps: u32,
+    /// How many words of the log were written.
+    pub logged: usize,
 }
 
 /// A decoded word. The operands stand in the order of the fields of the published enum; 0 where there is none.

@@ -1,8 +1,8 @@
 -- `nilguseg_replay` meets its contract.
-use Rattle.nilguseg_log.proofs.CallLaws.{seen-again}
+use Rattle.nilguseg_replay.proofs.CallLaws.{seen-again}
 use borrow.Author.Needs.{needs}
-use Rattle.nilguseg_log.proofs.nilguseg_replay.Statement.{statement}
-use Rattle.nilguseg_log.proofs.nilguseg_replay.Tie as tie
+use Rattle.nilguseg_replay.proofs.nilguseg_replay.Statement.{statement}
+use Rattle.nilguseg_replay.proofs.nilguseg_replay.Tie as tie
 
 pub nilguseg-replay-spec : {M : Type 1} → statement M
 nilguseg-replay-spec =
