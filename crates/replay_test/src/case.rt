@@ -11,6 +11,9 @@ ghost use Prim.Native.Nat.{_≤_, _<_};
 // Bytes of a case.
 pub const CASE: usize = 222;
 
+// Log words that no recorded run needs more of.
+const LOG: usize = 4096;
+
 // Whether this machine answers as the Rust did.
 pub fn replay(case: &[u8; 222]) -> bool {
     if word(case, 0) == 0 {
@@ -40,6 +43,34 @@ fn replay_run(case: &[u8; 222]) -> bool {
         && same_end(end, case)
         && same_core(after, case)
         && same_memory(&memory, &marks, case)
+        && seen_again(case)
+}
+
+// The same run with a log, and its replay: both end as the Rust did.
+fn seen_again(case: &[u8; 222]) -> bool {
+    let mut memory = memory_of(case);
+    let mut marks = [mark(case); 32];
+    let mut log = [0u32; LOG];
+    let limit = word(case, 1) as u32;
+    let r = core_of(case).run_logged(&mut memory, &mut marks, limit, &mut log);
+    let after = r.core;
+    let end = r.end;
+    let logged = r.logged;
+    r.steps == word(case, 50) as u32
+        && same_end(end, case)
+        && same_core(after, case)
+        && same_memory(&memory, &marks, case)
+        && same_replay(case, &log, logged)
+}
+
+fn same_replay(case: &[u8; 222], log: &[u32], logged: usize) -> bool {
+    if log.len() < logged {
+        return false;
+    }
+    let r = replay::replay(core_of(case), 32, word(case, 1) as u32, &log[..logged]);
+    let after = r.core;
+    let end = r.end;
+    r.steps == word(case, 50) as u32 && same_end(end, case) && same_core(after, case)
 }
 
 // Word `i` of a case, low byte first.
