@@ -18,10 +18,12 @@ const ROUNDS: usize = 15;
 const LIST_ROUNDS: usize = 2000;
 
 /// What is measured beside berth: its name, the cargo profile it is built in, and the machine.
-const MACHINES: [(&str, &str, &str); 3] = [
+const MACHINES: [(&str, &str, &str); 5] = [
     ("published Rust, overflow checks off", "unchecked", "published"),
     ("published Rust, overflow checks on", "release", "published"),
     ("library", "release", "library"),
+    ("library, logged", "release", "logged"),
+    ("library, replay", "release", "replay"),
 ];
 
 /// The least and the median of the rounds.
@@ -122,7 +124,7 @@ fn print_table(table: &[Program], rows: &[(&str, Vec<Times>)], first: usize) {
 
 /// A row of the table: a name and its columns.
 fn print_row(name: &str, columns: impl IntoIterator<Item = impl Display>) {
-    print!("{name:<38}");
+    print!("{name:<46}");
     for column in columns {
         print!(" {column:>12}");
     }

@@ -1,4 +1,4 @@
-//! usage: measure published|library
+//! usage: measure published|library|logged|replay
 //! Runs the programs of both tables, and prints for each the CPU nanoseconds per step and a digest of what the run left.
 //! Built twice: with and without overflow checks, which are those of the published Rust.
 
@@ -10,7 +10,7 @@ use bench::{cpu_time, tables};
 use delta_null_core_emulator::core::Core as PublishedCore;
 use delta_null_core_emulator::memory::{Memory, MemoryError};
 use differential::programs::full_memory;
-use nilguseg::{Core, Outcome, Run};
+use nilguseg::{Core, LoggedRun, Outcome, Run};
 
 /// A memory that keeps the marks, as the library does.
 struct Marked {
@@ -71,11 +71,40 @@ fn library(mut memory: Vec<u16>, limit: u32) -> Done {
     Done { time, run, core, memory, marks }
 }
 
+/// A logged run, and its log.
+fn with_log(mut memory: Vec<u16>, limit: u32) -> (Done, Vec<u32>) {
+    let mut marks = vec![0; memory.len()];
+    // enough for any run, and not zeros, whose pages would be made only once the clock runs
+    let mut log = vec![u32::MAX; 4 * limit as usize];
+    let mut core = Core::new();
+    let start = cpu_time();
+    let LoggedRun { end, steps, logged } = core.run_logged(&mut memory, &mut marks, black_box(limit), &mut log);
+    let time = cpu_time() - start;
+    log.truncate(logged);
+    (Done { time, run: Run { end, steps }, core, memory, marks }, log)
+}
+
+fn logged(memory: Vec<u16>, limit: u32) -> Done {
+    with_log(memory, limit).0
+}
+
+/// Memory and marks, which a replay has not, are those of the run that made the log.
+fn replay(memory: Vec<u16>, limit: u32) -> Done {
+    let (done, log) = with_log(memory, limit);
+    let mut core = Core::new();
+    let start = cpu_time();
+    let run = core.replay(done.memory.len(), black_box(limit), &log);
+    let time = cpu_time() - start;
+    Done { time, run, core, ..done }
+}
+
 fn main() {
     let machine = match std::env::args().nth(1).as_deref() {
         Some("published") => published,
         Some("library") => library,
-        _ => panic!("usage: measure published|library"),
+        Some("logged") => logged,
+        Some("replay") => replay,
+        _ => panic!("usage: measure published|library|logged|replay"),
     };
     for program in tables().into_iter().flatten() {
         let done = machine(full_memory(&program.words), program.limit);
