@@ -52,8 +52,9 @@ pub fn read_word(memory: &[u16], marks: &mut [u8], address: u16) -> Read
     if memory.len() <= at {
         return Read::Stopped(Stop::OutOfRange(address));
     }
+    let word = memory[at];
     marks[at] = read_mark(marks[at]);
-    Read::Word(memory[at])
+    Read::Word(word)
 }
 
 // The word at an address, read to be executed.
