@@ -1,7 +1,9 @@
 //! The comparison of a machine with the published Rust, and with the documents where there is no Rust.
 
 mod assembly;
+mod calls;
 mod lists;
+mod logs;
 pub mod machine;
 pub mod mistakes;
 pub mod model;
@@ -36,6 +38,8 @@ pub struct Effort {
     pub sheets: usize,
     /// Pairs of word lists drawn.
     pub lists: usize,
+    /// Programs run with a log.
+    pub logs: usize,
 }
 
 pub const FULL: Effort = Effort {
@@ -46,6 +50,7 @@ pub const FULL: Effort = Effort {
     measured: 1_000_000,
     sheets: 400_000,
     lists: 1_000_000,
+    logs: 20_000,
 };
 
 pub const SHORT: Effort = Effort {
@@ -56,18 +61,27 @@ pub const SHORT: Effort = Effort {
     measured: 100_000,
     sheets: 40_000,
     lists: 100_000,
+    logs: 1_000,
 };
 
 /// Enough to find a wrong machine.
-pub const CONTROL: Effort =
-    Effort { states: 4, stride: 64, lockstep: 300_000, runs: 300_000, measured: 10_000, sheets: 10_000, lists: 10_000 };
+pub const CONTROL: Effort = Effort {
+    states: 4,
+    stride: 64,
+    lockstep: 300_000,
+    runs: 300_000,
+    measured: 10_000,
+    sheets: 10_000,
+    lists: 10_000,
+    logs: 300,
+};
 
 type Part = fn(&dyn Machine, &Effort, &mut Report);
 
-const PARTS: [Part; 11] = [
+/// The two that take longest stand last: most wrong machines are found before them.
+const PARTS: [Part; 12] = [
     |machine, _, report| words::decode(machine, report),
     |machine, _, report| steps::every_edge(machine, report),
-    |machine, effort, report| steps::every_word(machine, effort.states, report),
     |machine, effort, report| steps::every_value(machine, effort.stride, report),
     |machine, effort, report| runs::measured(machine, effort.measured, report),
     |machine, effort, report| runs::limits(machine, effort.runs, report),
@@ -75,6 +89,8 @@ const PARTS: [Part; 11] = [
     |machine, _, report| sheets::refusals(machine, report),
     |machine, effort, report| sheets::sheets(machine, effort.sheets, report),
     |machine, effort, report| lists::lists(machine, effort.lists, report),
+    |machine, effort, report| logs::logs(machine, effort.logs, effort.measured, report),
+    |machine, effort, report| steps::every_word(machine, effort.states, report),
     |machine, _, report| words::encode(machine, report),
 ];
 

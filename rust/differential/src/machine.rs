@@ -3,7 +3,7 @@
 use std::cmp::Ordering;
 
 use crate::model;
-use nilguseg::{Core, Fault, Instruction, Outcome, Refusal, Run};
+use nilguseg::{Core, Fault, Instruction, LoggedRun, Outcome, Refusal, Run};
 
 pub trait Machine {
     fn decode(&self, word: u16) -> Result<Instruction, Fault> {
@@ -20,6 +20,21 @@ pub trait Machine {
 
     fn run(&self, core: &mut Core, memory: &mut [u16], marks: &mut [u8], limit: u32) -> Run {
         model::run(core, memory, marks, limit)
+    }
+
+    fn run_logged(
+        &self,
+        core: &mut Core,
+        memory: &mut [u16],
+        marks: &mut [u8],
+        limit: u32,
+        log: &mut [u32],
+    ) -> LoggedRun {
+        model::run_logged(core, memory, marks, limit, log)
+    }
+
+    fn replay(&self, core: &mut Core, size: usize, limit: u32, log: &[u32]) -> Run {
+        model::replay(core, size, limit, log)
     }
 
     fn load_words(&self, core: &mut Core, words: &[u16], memory: &mut [u16]) -> Result<(), Refusal> {
@@ -66,6 +81,21 @@ impl Machine for Library {
 
     fn run(&self, core: &mut Core, memory: &mut [u16], marks: &mut [u8], limit: u32) -> Run {
         core.run(memory, marks, limit)
+    }
+
+    fn run_logged(
+        &self,
+        core: &mut Core,
+        memory: &mut [u16],
+        marks: &mut [u8],
+        limit: u32,
+        log: &mut [u32],
+    ) -> LoggedRun {
+        core.run_logged(memory, marks, limit, log)
+    }
+
+    fn replay(&self, core: &mut Core, size: usize, limit: u32, log: &[u32]) -> Run {
+        core.replay(size, limit, log)
     }
 
     fn load_words(&self, core: &mut Core, words: &[u16], memory: &mut [u16]) -> Result<(), Refusal> {

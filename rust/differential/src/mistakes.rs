@@ -4,8 +4,8 @@
 use std::cmp::Ordering;
 
 use crate::machine::Machine;
-use crate::model;
-use nilguseg::{kind::*, Core, Fault, Instruction, Outcome, Refusal, Run};
+use crate::model::{self, DATA, FETCH};
+use nilguseg::{kind::*, Core, Fault, Instruction, LoggedRun, Outcome, Refusal, Run};
 
 pub struct WrongMachine {
     pub name: &'static str,
@@ -18,6 +18,10 @@ enum Mistake {
     Encode(fn(Instruction) -> Option<u16>),
     Step(fn(&mut Stepped)),
     Run(fn(&mut Core, &mut [u16], &mut [u8], u32) -> Run),
+    RunLogged(RunLogged),
+    Logged(fn(&mut LoggedRun, &mut [u32])),
+    Replay(fn(&mut Core, usize, u32, &[u32]) -> Run),
+    Found(model::Found),
     LoadWords(Load<u16>),
     LoadSheet(Load<u32>),
     WriteSheet(Write),
@@ -25,6 +29,7 @@ enum Mistake {
     Earlier(for<'a> fn(&'a [u16], &'a [u16]) -> &'a [u16]),
 }
 
+type RunLogged = fn(&mut Core, &mut [u16], &mut [u8], u32, &mut [u32]) -> LoggedRun;
 type Load<T> = fn(&mut Core, &[T], &mut [u16]) -> Result<(), Refusal>;
 type Write = fn(&Core, &[u16], &mut [u32]) -> Result<usize, Refusal>;
 
@@ -41,6 +46,8 @@ struct Stepped<'a> {
     core: &'a mut Core,
     memory: &'a mut [u16],
     marks: &'a mut [u8],
+    /// The log words of its reads.
+    log: Vec<u32>,
     answer: Outcome,
 }
 
@@ -67,7 +74,14 @@ impl Stepped<'_> {
     }
 }
 
-fn wrong_step(step: fn(&mut Stepped), core: &mut Core, memory: &mut [u16], marks: &mut [u8]) -> Outcome {
+/// A step spoilt, with the log to which it adds its reads.
+fn wrong_step(
+    step: fn(&mut Stepped),
+    core: &mut Core,
+    memory: &mut [u16],
+    marks: &mut [u8],
+    words: &mut Vec<u32>,
+) -> Outcome {
     let before = *core;
     let fetched = memory.get(core.ip as usize).and_then(|word| model::decode(*word).ok());
     let (first, second) = fetched.map_or((0, 0), |i| (i.first as usize % 8, i.second as usize % 8));
@@ -79,10 +93,12 @@ fn wrong_step(step: fn(&mut Stepped), core: &mut Core, memory: &mut [u16], marks
         _ => before.sp,
     } as usize;
     let mark = marks.get(address).copied();
-    let answer = model::step(core, memory, marks);
+    let mut log = Vec::new();
+    let answer = model::step_logged(core, memory, marks, Some(&mut log));
     let kind = fetched.map(|instruction| instruction.kind);
-    let mut stepped = Stepped { before, kind, first, second, address, mark, core, memory, marks, answer };
+    let mut stepped = Stepped { before, kind, first, second, address, mark, core, memory, marks, log, answer };
     step(&mut stepped);
+    words.extend(stepped.log);
     stepped.answer
 }
 
@@ -103,7 +119,7 @@ impl Machine for WrongMachine {
 
     fn step(&self, core: &mut Core, memory: &mut [u16], marks: &mut [u8]) -> Outcome {
         match self.mistake {
-            Mistake::Step(step) => wrong_step(step, core, memory, marks),
+            Mistake::Step(step) => wrong_step(step, core, memory, marks, &mut Vec::new()),
             _ => model::step(core, memory, marks),
         }
     }
@@ -114,6 +130,39 @@ impl Machine for WrongMachine {
             Mistake::Run(run) => run(core, memory, marks, limit),
             Mistake::Step(_) => model::run_by(wrong_steps, core, memory, marks, limit),
             _ => model::run(core, memory, marks, limit),
+        }
+    }
+
+    fn run_logged(
+        &self,
+        core: &mut Core,
+        memory: &mut [u16],
+        marks: &mut [u8],
+        limit: u32,
+        log: &mut [u32],
+    ) -> LoggedRun {
+        match self.mistake {
+            Mistake::RunLogged(run) => run(core, memory, marks, limit, log),
+            Mistake::Logged(spoil) => {
+                let mut run = model::run_logged(core, memory, marks, limit, log);
+                spoil(&mut run, log);
+                run
+            }
+            Mistake::Step(step) => {
+                let wrong_steps = |core: &mut Core, memory: &mut [u16], marks: &mut [u8], words: &mut Vec<u32>| {
+                    wrong_step(step, core, memory, marks, words)
+                };
+                model::run_logged_by(wrong_steps, core, memory, marks, limit, log)
+            }
+            _ => model::run_logged(core, memory, marks, limit, log),
+        }
+    }
+
+    fn replay(&self, core: &mut Core, size: usize, limit: u32, log: &[u32]) -> Run {
+        match self.mistake {
+            Mistake::Replay(replay) => replay(core, size, limit, log),
+            Mistake::Found(found) => model::replay_by(found, core, size, limit, log),
+            _ => model::replay(core, size, limit, log),
         }
     }
 
@@ -157,11 +206,19 @@ const fn step(name: &'static str, step: fn(&mut Stepped)) -> WrongMachine {
     WrongMachine { name, mistake: Mistake::Step(step) }
 }
 
+const fn logged(name: &'static str, spoil: fn(&mut LoggedRun, &mut [u32])) -> WrongMachine {
+    WrongMachine { name, mistake: Mistake::Logged(spoil) }
+}
+
+const fn found(name: &'static str, found: model::Found) -> WrongMachine {
+    WrongMachine { name, mistake: Mistake::Found(found) }
+}
+
 const fn other(name: &'static str, mistake: Mistake) -> WrongMachine {
     WrongMachine { name, mistake }
 }
 
-pub const WRONG_MACHINES: [WrongMachine; 48] = [
+pub const WRONG_MACHINES: [WrongMachine; 77] = [
     step("ip is not advanced on an undecodable word", |s| {
         if s.fault(10) {
             s.core.ip = s.before.ip;
@@ -462,5 +519,147 @@ pub const WRONG_MACHINES: [WrongMachine; 48] = [
             (Ordering::Less, []) => &second[second.len()..],
             (_, part) => part,
         }),
+    ),
+    step("a fetch is logged without bit 16", |s| {
+        if let Some(fetch) = s.log.first_mut() {
+            *fetch &= !FETCH;
+        }
+    }),
+    step("every read is logged with bit 16", |s| {
+        if let Some(read) = s.log.get_mut(2) {
+            *read |= FETCH;
+        }
+    }),
+    step("the word is logged before the address", |s| s.log.chunks_mut(2).for_each(|read| read.reverse())),
+    step("a read out of range is logged", |s| {
+        if matches!(s.kind, Some(READ | SPREAD | POP)) && s.fault(11) {
+            s.log.extend(model::entry(DATA, s.address as u16, 0));
+        }
+    }),
+    step("a fetch out of range is logged", |s| {
+        if s.fault(11) && s.log.is_empty() {
+            s.log.extend(model::entry(FETCH, s.before.ip, 0));
+        }
+    }),
+    step("the fetch of an undecodable word is not logged", |s| {
+        if s.fault(10) {
+            s.log.clear();
+        }
+    }),
+    step("the fetch of a word that faults is not logged", |s| {
+        if s.fault(13) {
+            s.log.clear();
+        }
+    }),
+    step("writes are logged too", |s| {
+        if s.is(WRITE) || s.is(PUSH) {
+            s.log.extend(model::entry(DATA, s.address as u16, s.memory[s.address]));
+        }
+    }),
+    logged("the reads are counted and not the log words", |run, _| run.logged /= 2),
+    logged("the room is tested before the limit", |run, log| {
+        if run.end == Outcome::Limit && log.len() - run.logged < 4 {
+            run.end = Outcome::Log(30);
+        }
+    }),
+    logged("the room is tested before halt", |run, log| {
+        if run.end == Outcome::Halted && log.len() - run.logged < 4 {
+            run.end = Outcome::Log(30);
+        }
+    }),
+    logged("the room past the log is cleared", |run, log| log[run.logged..].fill(0)),
+    logged("a refused logged run clears the log", |run, log| {
+        if matches!(run.end, Outcome::Refused(_)) {
+            log.fill(0);
+        }
+    }),
+    other(
+        "room for three words is enough",
+        Mistake::RunLogged(|core, memory, marks, limit, log| {
+            let mut longer = [&log[..], &[0]].concat();
+            let run = model::run_logged(core, memory, marks, limit, &mut longer);
+            log.copy_from_slice(&longer[..log.len()]);
+            LoggedRun { logged: run.logged.min(log.len()), ..run }
+        }),
+    ),
+    other(
+        "room for four words is not enough",
+        Mistake::RunLogged(|core, memory, marks, limit, log| {
+            let shorter = log.len().saturating_sub(1);
+            model::run_logged(core, memory, marks, limit, &mut log[..shorter])
+        }),
+    ),
+    found("a replay does not look at the address", |read, log| match *log {
+        [address, ..] if address >> 16 == read >> 16 => model::found(address, log),
+        _ => None,
+    }),
+    found("a replay does not look at bit 16", |read, log| match *log {
+        [address, ..] if address | FETCH == read | FETCH => model::found(address, log),
+        _ => None,
+    }),
+    found("a replay does not look at bits 27 to 17 of an address", |read, log| match *log {
+        [address, value, ..] => model::found(read, &[address & 0xF001_FFFF, value]),
+        _ => None,
+    }),
+    found("a replay does not look at the kind of a value", |read, log| match *log {
+        [address, value, ..] => model::found(read, &[address, value << 4 >> 4 | 5 << 28]),
+        _ => None,
+    }),
+    found("a replay does not look at bits 27 to 16 of a value", |read, log| match *log {
+        [address, value, ..] => model::found(read, &[address, value & 0xF000_FFFF]),
+        _ => None,
+    }),
+    found("a replay wants the words of an empty memory", |read, log| model::found(read, log).filter(|word| *word == 0)),
+    found("a replay takes 0 where the log is over", |read, log| match log {
+        [] | [_] => Some(0),
+        _ => model::found(read, log),
+    }),
+    other(
+        "a replay leaves words over",
+        Mistake::Replay(|core, size, limit, log| {
+            let left = model::follow(model::found, *core, size, limit, log).left;
+            model::replay(core, size, limit, &log[..log.len() - left])
+        }),
+    ),
+    other(
+        "a replay answered by 31 hands back another core",
+        Mistake::Replay(|core, size, limit, log| {
+            let followed = model::follow(model::found, *core, size, limit, log);
+            let run = model::replay(core, size, limit, log);
+            if run.end == Outcome::Log(31) {
+                *core = followed.core;
+            }
+            run
+        }),
+    ),
+    other(
+        "a replay answered by 31 has steps",
+        Mistake::Replay(|core, size, limit, log| {
+            let followed = model::follow(model::found, *core, size, limit, log);
+            let run = model::replay(core, size, limit, log);
+            match run.end {
+                Outcome::Log(31) => Run { steps: followed.run.steps, ..run },
+                _ => run,
+            }
+        }),
+    ),
+    other(
+        "a replay with memory of no word is not refused",
+        Mistake::Replay(|core, size, limit, log| model::replay(core, size.max(1), limit, log)),
+    ),
+    other(
+        "a replay goes by the low 32 bits of the size",
+        Mistake::Replay(|core, size, limit, log| model::replay(core, size as u32 as usize, limit, log)),
+    ),
+    other(
+        "a replay knows no address out of range",
+        Mistake::Replay(|core, size, limit, log| match size {
+            1..65536 => model::replay(core, 65536, limit, log),
+            _ => model::replay(core, size, limit, log),
+        }),
+    ),
+    other(
+        "a replay goes past its limit",
+        Mistake::Replay(|core, size, limit, log| model::replay(core, size, limit.max(log.len() as u32), log)),
     ),
 ];

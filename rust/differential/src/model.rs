@@ -1,10 +1,11 @@
 //! The machine of document 01, written from its text alone, plainly and slowly: decoding looks a word up in
 //! a table made by encoding every operand of every row. It is the base of the wrong machines, and the measure
-//! for what the published Rust does not have: refusals, sheets, and document 02's order of word lists.
+//! for what the published Rust does not have: refusals, sheets, and document 02's order of word lists, the room
+//! for a log and the replay.
 
 use std::cmp::Ordering;
 
-use nilguseg::{kind::*, Core, Fault, Instruction, Outcome, Refusal, Run};
+use nilguseg::{kind::*, Core, Fault, Instruction, LoggedRun, Outcome, Refusal, Run};
 
 /// Where an operand stands in a word: how many values it has, and its lowest bit.
 struct Operand {
@@ -126,32 +127,62 @@ fn place(operand: &Operand, value: u8) -> Option<u16> {
     (value < operand.values).then_some(value << operand.shift)
 }
 
-/// The memory and the marks lent to a step.
+/// What a step reads and writes: the memory lent to it, or a log in memory's place.
+trait Words {
+    /// The purpose is `FETCH` or `DATA`.
+    fn read(&mut self, at: u16, purpose: u32) -> Result<u16, Fault>;
+    fn write(&mut self, at: u16, word: u16) -> Result<(), Fault>;
+}
+
+/// The memory and the marks lent to a step, and the log to which its reads are added, if there is one.
 struct Lent<'a> {
     memory: &'a mut [u16],
     marks: &'a mut [u8],
+    log: Option<&'a mut Vec<u32>>,
 }
 
-impl Lent<'_> {
-    fn read(&mut self, at: u16) -> Result<u16, Fault> {
-        let word = *self.memory.get(at as usize).ok_or(Fault { number: 11, value: at })?;
+impl Words for Lent<'_> {
+    fn read(&mut self, at: u16, purpose: u32) -> Result<u16, Fault> {
+        in_range(at, self.memory.len())?;
+        let word = self.memory[at as usize];
         let mark = &mut self.marks[at as usize];
         if *mark & 2 == 0 {
             *mark |= 1;
+        }
+        if let Some(log) = &mut self.log {
+            log.extend(entry(purpose, at, word));
         }
         Ok(word)
     }
 
     fn write(&mut self, at: u16, word: u16) -> Result<(), Fault> {
-        *self.memory.get_mut(at as usize).ok_or(Fault { number: 11, value: at })? = word;
+        in_range(at, self.memory.len())?;
+        self.memory[at as usize] = word;
         self.marks[at as usize] |= 2;
         Ok(())
     }
 }
 
+fn in_range(at: u16, length: usize) -> Result<(), Fault> {
+    if (at as usize) < length {
+        Ok(())
+    } else {
+        Err(Fault { number: 11, value: at })
+    }
+}
+
+/// What a word is read for, as its log word has it.
+pub const FETCH: u32 = 1 << 16;
+pub const DATA: u32 = 0;
+
+/// The two log words of a read (document 02): kind 4 with the purpose and the address, kind 5 with the word.
+pub fn entry(purpose: u32, at: u16, word: u16) -> [u32; 2] {
+    [4 << 28 | purpose | at as u32, 5 << 28 | word as u32]
+}
+
 /// The first host test that fails on what a step or a run is lent.
 fn host_test(memory: &[u16], marks: &[u8]) -> Result<(), Refusal> {
-    memory_test(memory)?;
+    length_test(memory.len())?;
     if marks.len() == memory.len() {
         Ok(())
     } else {
@@ -159,8 +190,8 @@ fn host_test(memory: &[u16], marks: &[u8]) -> Result<(), Refusal> {
     }
 }
 
-fn memory_test(memory: &[u16]) -> Result<(), Refusal> {
-    if (1..=65536).contains(&memory.len()) {
+fn length_test(length: usize) -> Result<(), Refusal> {
+    if (1..=65536).contains(&length) {
         Ok(())
     } else {
         Err(Refusal(1))
@@ -168,26 +199,36 @@ fn memory_test(memory: &[u16]) -> Result<(), Refusal> {
 }
 
 pub fn step(core: &mut Core, memory: &mut [u16], marks: &mut [u8]) -> Outcome {
+    step_logged(core, memory, marks, None)
+}
+
+/// A step that adds its reads to the log, if there is one.
+pub fn step_logged(core: &mut Core, memory: &mut [u16], marks: &mut [u8], log: Option<&mut Vec<u32>>) -> Outcome {
     if let Err(refusal) = host_test(memory, marks) {
         return Outcome::Refused(refusal);
     }
     if core.is_halted() {
         return Outcome::Halted;
     }
-    match cycle(core, &mut Lent { memory, marks }) {
+    turn(core, &mut Lent { memory, marks, log })
+}
+
+/// A step of a core that is not halted.
+fn turn(core: &mut Core, words: &mut dyn Words) -> Outcome {
+    match cycle(core, words) {
         Ok(()) => Outcome::Stepped,
         Err(fault) => Outcome::Fault(fault),
     }
 }
 
-fn cycle(core: &mut Core, lent: &mut Lent) -> Result<(), Fault> {
-    let word = lent.read(core.ip)?;
+fn cycle(core: &mut Core, words: &mut dyn Words) -> Result<(), Fault> {
+    let word = words.read(core.ip, FETCH)?;
     core.ip = sum(core.ip, 1);
     let instruction = decode(word)?;
-    execute(core, instruction, word, lent)
+    execute(core, instruction, word, words)
 }
 
-fn execute(core: &mut Core, instruction: Instruction, word: u16, lent: &mut Lent) -> Result<(), Fault> {
+fn execute(core: &mut Core, instruction: Instruction, word: u16, words: &mut dyn Words) -> Result<(), Fault> {
     let (first, second) = (instruction.first as usize, instruction.second as usize);
     let condition = core.ef / 2 % 2 == 1;
     match instruction.kind {
@@ -197,7 +238,7 @@ fn execute(core: &mut Core, instruction: Instruction, word: u16, lent: &mut Lent
         MOV => core.r[first] = core.r[second],
         PUTL => core.r[first] = core.r[first] / 256 * 256 + second as u16,
         PUTH => core.r[first] = core.r[first] % 256 + second as u16 * 256,
-        READ..=POP => access(core, instruction, lent)?,
+        READ..=POP => access(core, instruction, words)?,
         MOVSO => core.r[first] = [core.ip, core.rp, core.sp, core.ef][second],
         MOVSI => *[&mut core.ip, &mut core.rp, &mut core.sp, &mut core.ef][first] = core.r[second],
         SPADD => core.sp = sum(core.sp, core.r[first]),
@@ -221,19 +262,19 @@ fn execute(core: &mut Core, instruction: Instruction, word: u16, lent: &mut Lent
 }
 
 /// The kinds that touch memory.
-fn access(core: &mut Core, instruction: Instruction, lent: &mut Lent) -> Result<(), Fault> {
+fn access(core: &mut Core, instruction: Instruction, words: &mut dyn Words) -> Result<(), Fault> {
     let (first, second) = (instruction.first as usize, instruction.second as usize);
     match instruction.kind {
-        READ => core.r[first] = lent.read(core.r[second])?,
-        WRITE => lent.write(core.r[first], core.r[second])?,
-        SPREAD => core.r[first] = lent.read(sum(core.sp, second as u16))?,
-        SPWRITE => lent.write(sum(core.sp, first as u16), core.r[second])?,
+        READ => core.r[first] = words.read(core.r[second], DATA)?,
+        WRITE => words.write(core.r[first], core.r[second])?,
+        SPREAD => core.r[first] = words.read(sum(core.sp, second as u16), DATA)?,
+        SPWRITE => words.write(sum(core.sp, first as u16), core.r[second])?,
         PUSH => {
             core.sp = difference(core.sp, 1);
-            lent.write(core.sp, core.r[first])?;
+            words.write(core.sp, core.r[first])?;
         }
         POP => {
-            core.r[first] = lent.read(core.sp)?;
+            core.r[first] = words.read(core.sp, DATA)?;
             core.sp = sum(core.sp, 1);
         }
         _ => unreachable!(),
@@ -310,6 +351,11 @@ pub fn run_by(
         return Run { end: Outcome::Refused(refusal), steps: 0 };
     }
     marks.fill(0);
+    turns(|core| step(core, memory, marks), core, limit)
+}
+
+/// Steps until halt, the limit or another answer than stepped.
+fn turns(mut step: impl FnMut(&mut Core) -> Outcome, core: &mut Core, limit: u32) -> Run {
     let mut steps = 0;
     let end = loop {
         if core.is_halted() {
@@ -318,7 +364,7 @@ pub fn run_by(
         if steps == limit {
             break Outcome::Limit;
         }
-        match step(core, memory, marks) {
+        match step(core) {
             Outcome::Stepped => steps += 1,
             end => break end,
         }
@@ -326,9 +372,99 @@ pub fn run_by(
     Run { end, steps }
 }
 
+pub fn run_logged(core: &mut Core, memory: &mut [u16], marks: &mut [u8], limit: u32, log: &mut [u32]) -> LoggedRun {
+    let step = |core: &mut Core, memory: &mut [u16], marks: &mut [u8], words: &mut Vec<u32>| {
+        step_logged(core, memory, marks, Some(words))
+    };
+    run_logged_by(step, core, memory, marks, limit, log)
+}
+
+/// A logged run by the step given, which adds its reads to the words logged.
+pub fn run_logged_by(
+    mut step: impl FnMut(&mut Core, &mut [u16], &mut [u8], &mut Vec<u32>) -> Outcome,
+    core: &mut Core,
+    memory: &mut [u16],
+    marks: &mut [u8],
+    limit: u32,
+    log: &mut [u32],
+) -> LoggedRun {
+    let mut words = Vec::new();
+    let step_with_room = |core: &mut Core, memory: &mut [u16], marks: &mut [u8]| match log.len() - words.len() {
+        0..4 => Outcome::Log(30),
+        _ => step(core, memory, marks, &mut words),
+    };
+    let Run { end, steps } = run_by(step_with_room, core, memory, marks, limit);
+    log[..words.len()].copy_from_slice(&words);
+    LoggedRun { end, steps, logged: words.len() }
+}
+
+/// The word that a log has for a read with the address word given: none where its next two words are not that read.
+pub type Found = fn(u32, &[u32]) -> Option<u16>;
+
+pub fn found(address_word: u32, log: &[u32]) -> Option<u16> {
+    match *log {
+        [address, value, ..] if address == address_word && value >> 16 == 5 << 12 => Some(value as u16),
+        _ => None,
+    }
+}
+
+/// A log in the place of a memory of `size` words: what of it is still to be read.
+struct Tape<'a> {
+    size: usize,
+    rest: &'a [u32],
+    found: Found,
+}
+
+/// The stop of a read that the log does not have.
+const MISMATCH: Fault = Fault { number: 31, value: 0 };
+
+impl Words for Tape<'_> {
+    fn read(&mut self, at: u16, purpose: u32) -> Result<u16, Fault> {
+        in_range(at, self.size)?;
+        let [address_word, _] = entry(purpose, at, 0);
+        let word = (self.found)(address_word, self.rest).ok_or(MISMATCH)?;
+        self.rest = self.rest.get(2..).unwrap_or_default();
+        Ok(word)
+    }
+
+    fn write(&mut self, at: u16, _: u16) -> Result<(), Fault> {
+        in_range(at, self.size)
+    }
+}
+
+/// A replay up to its end, or to the first read that the log does not have: the core there, and the words left over.
+pub struct Followed {
+    pub core: Core,
+    pub run: Run,
+    pub left: usize,
+}
+
+pub fn follow(found: Found, mut core: Core, size: usize, limit: u32, log: &[u32]) -> Followed {
+    let mut tape = Tape { size, rest: log, found };
+    let run = turns(|core| turn(core, &mut tape), &mut core, limit);
+    Followed { core, run, left: tape.rest.len() }
+}
+
+pub fn replay(core: &mut Core, size: usize, limit: u32, log: &[u32]) -> Run {
+    replay_by(found, core, size, limit, log)
+}
+
+/// A replay that takes the words that `found` finds.
+pub fn replay_by(found: Found, core: &mut Core, size: usize, limit: u32, log: &[u32]) -> Run {
+    if let Err(refusal) = length_test(size) {
+        return Run { end: Outcome::Refused(refusal), steps: 0 };
+    }
+    let followed = follow(found, *core, size, limit, log);
+    if followed.run.end == Outcome::Fault(MISMATCH) || followed.left > 0 {
+        return Run { end: Outcome::Log(31), steps: 0 };
+    }
+    *core = followed.core;
+    followed.run
+}
+
 pub fn load_words(core: &mut Core, words: &[u16], memory: &mut [u16]) -> Result<(), Refusal> {
     *core = Core::new();
-    memory_test(memory)?;
+    length_test(memory.len())?;
     if words.len() > memory.len() {
         return Err(Refusal(3));
     }
@@ -345,7 +481,7 @@ const END: u32 = 15;
 
 pub fn load_sheet(core: &mut Core, sheet: &[u32], memory: &mut [u16]) -> Result<(), Refusal> {
     *core = Core::new();
-    memory_test(memory)?;
+    length_test(memory.len())?;
     sheet_test(sheet, memory.len())?;
     memory.fill(0);
     let mut address = 0;
@@ -403,7 +539,7 @@ fn register(core: &mut Core, number: u32) -> &mut u16 {
 }
 
 pub fn write_sheet(core: &Core, memory: &[u16], sheet: &mut [u32]) -> Result<usize, Refusal> {
-    memory_test(memory)?;
+    length_test(memory.len())?;
     if sheet.len() < records(core, memory).count() {
         return Err(Refusal(4));
     }

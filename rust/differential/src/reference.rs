@@ -2,9 +2,10 @@
 //! with its panics turned into the stops that document 01 has for them.
 
 use std::any::Any;
-use std::cell::Cell;
+use std::cell::{Cell, RefCell};
 use std::panic::{catch_unwind, AssertUnwindSafe};
 
+use crate::model;
 use delta_null_core_emulator::core::{Core as PublishedCore, ExecutionError};
 use delta_null_core_emulator::memory::{Memory, MemoryError};
 use delta_null_core_instructions::{Encodable, Instruction as Published, DR, GPR, SPR};
@@ -72,6 +73,8 @@ struct Watched {
     /// The addresses of the last step's accesses: a fetch, and at most one more.
     touched: [Cell<u16>; 2],
     touches: Cell<usize>,
+    /// The last step's reads in order: the address, and the word there.
+    reads: RefCell<Vec<(u16, u16)>>,
     out_of_range: Cell<Option<u16>>,
 }
 
@@ -94,7 +97,9 @@ impl Memory for Watched {
         if mark.get() & 2 == 0 {
             mark.set(mark.get() | 1);
         }
-        Ok(self.words[address as usize])
+        let word = self.words[address as usize];
+        self.reads.borrow_mut().push((address, word));
+        Ok(word)
     }
 
     fn write(&mut self, address: u16, value: u16) -> Result<(), MemoryError> {
@@ -114,8 +119,14 @@ impl Reference {
     pub fn new(core: Core, words: Vec<u16>, marks: &[u8]) -> Reference {
         assert_eq!(words.len(), marks.len());
         let marks = marks.iter().copied().map(Cell::new).collect();
-        let watched =
-            Watched { words, marks, touched: Default::default(), touches: Cell::new(0), out_of_range: Cell::new(None) };
+        let watched = Watched {
+            words,
+            marks,
+            touched: Default::default(),
+            touches: Cell::new(0),
+            reads: RefCell::default(),
+            out_of_range: Cell::new(None),
+        };
         let mut reference = Reference { core: PublishedCore::new(watched) };
         reference.set_registers(core);
         reference
@@ -160,6 +171,7 @@ impl Reference {
     /// `Core::step`, in document 01's terms.
     pub fn step(&mut self) -> Outcome {
         self.core.memory.touches.set(0);
+        self.core.memory.reads.get_mut().clear();
         self.core.memory.out_of_range.set(None);
         let (halted, before) = (self.core.is_halted(), self.registers());
         EXPECTED.set(true);
@@ -180,6 +192,27 @@ impl Reference {
 
     /// `Core::step` up to a limit: halt first, then the limit, then a step. The marks begin at 0.
     pub fn run(&mut self, limit: u32) -> Run {
+        self.run_by(Reference::step, limit)
+    }
+
+    /// A run with the log of its reads, and the least room in which each step finds four log words free. A step's first
+    /// read is its fetch.
+    pub fn run_logged(&mut self, limit: u32) -> (Run, Vec<u32>, usize) {
+        let (mut log, mut needed) = (Vec::new(), 0);
+        let step = |reference: &mut Reference| {
+            needed = log.len() + 4;
+            let step = reference.step();
+            for (place, &(address, word)) in reference.core.memory.reads.get_mut().iter().enumerate() {
+                let purpose = if place == 0 { model::FETCH } else { model::DATA };
+                log.extend(model::entry(purpose, address, word));
+            }
+            step
+        };
+        let run = self.run_by(step, limit);
+        (run, log, needed)
+    }
+
+    fn run_by(&mut self, mut step: impl FnMut(&mut Reference) -> Outcome, limit: u32) -> Run {
         self.core.memory.marks.fill(Cell::new(0));
         let mut steps = 0;
         loop {
@@ -189,7 +222,7 @@ impl Reference {
             if steps == limit {
                 return Run { end: Outcome::Limit, steps };
             }
-            match self.step() {
+            match step(self) {
                 Outcome::Stepped => steps += 1,
                 end => return Run { end, steps },
             }

@@ -33,7 +33,9 @@ impl Counts {
             Outcome::Halted => 1,
             Outcome::Limit => 2,
             Outcome::Fault(fault) => fault.number as usize,
-            Outcome::Refused(_) | Outcome::Log(_) => unreachable!("the published Rust refuses nothing and has no log"),
+            Outcome::Refused(_) | Outcome::Log(_) => {
+                unreachable!("the published Rust refuses nothing and logs nothing")
+            }
         };
         self.0[slot] += 1;
     }
@@ -73,6 +75,14 @@ impl Report {
                 println!("DISAGREES in {told}");
             }
             self.first.get_or_insert(told);
+        }
+    }
+
+    /// Adds to what is compared without its outcome being told.
+    pub fn count(&mut self, what: &'static str, more: u64) {
+        match self.others.iter_mut().find(|(counted, _)| *counted == what) {
+            Some((_, count)) => *count += more,
+            None => self.others.push((what, more)),
         }
     }
 

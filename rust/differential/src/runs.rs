@@ -11,9 +11,9 @@ use crate::work::works;
 use nilguseg::{Core, Outcome, Run};
 
 /// A core and a memory to begin with.
-struct Program {
-    core: Core,
-    memory: Vec<u16>,
+pub struct Program {
+    pub core: Core,
+    pub memory: Vec<u16>,
 }
 
 /// Short memories mostly; now and then one of the lengths of `states::LENGTHS`.
@@ -26,7 +26,7 @@ fn random_length(random: &mut Random) -> usize {
 }
 
 /// Random content and a random core; one time in four a structured program and a fresh core.
-fn random_program(random: &mut Random) -> Program {
+pub fn random_program(random: &mut Random) -> Program {
     if random.one_in(4) {
         let length = random.pick(&[160, 255, 4096, 32768, 65536]);
         let address = (length - random.below(48)) as u16;
@@ -97,11 +97,16 @@ pub fn limits(machine: &dyn Machine, steps: u64, report: &mut Report) {
     }
 }
 
+/// The programs of the benchmark.
+pub fn measured_programs() -> impl Iterator<Item = Program> {
+    let works = works().map(|work| work.words);
+    let words = loops().map(|(_, words)| words).into_iter().chain(works);
+    words.map(|words| Program { core: Core::new(), memory: full_memory(&words) })
+}
+
 /// The programs of the benchmark, run for at most `steps` steps each.
 pub fn measured(machine: &dyn Machine, steps: u32, report: &mut Report) {
-    let works = works().map(|work| work.words);
-    for words in loops().map(|(_, words)| words).into_iter().chain(works) {
-        let program = Program { core: Core::new(), memory: full_memory(&words) };
+    for program in measured_programs() {
         compare_run(machine, &program, steps, report);
     }
 }

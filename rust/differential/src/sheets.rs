@@ -1,56 +1,15 @@
 //! What the published Rust has in part or not at all: word lists against `SimpleMemory::with_content`, and
 //! sheets and refusals against the model of document 01.
 
-use crate::machine::{Machine, Model};
+use crate::calls::{compare, lent, replay, run, run_logged, Called, Lent};
+use crate::machine::Machine;
 use crate::random::Random;
 use crate::report::Report;
 use crate::states::{self, edges};
 use delta_null_core_emulator::memory::SimpleMemory;
 use nilguseg::{Core, Refusal};
 
-/// What may be lent to a call.
-#[derive(Debug, Clone, PartialEq)]
-struct Lent {
-    core: Core,
-    memory: Vec<u16>,
-    marks: Vec<u8>,
-    sheet: Vec<u32>,
-}
-
-/// What a call answers, and what it leaves of what was lent.
-#[derive(Debug, PartialEq)]
-struct Outcome<A> {
-    answer: A,
-    left: Lent,
-}
-
-fn lent(core: Core, memory: Vec<u16>, marks: usize, sheet: Vec<u32>) -> Lent {
-    Lent { core, memory, marks: vec![0xA4; marks], sheet }
-}
-
-/// Calls the machine and the model with equal arguments and compares the outcomes. Returns the model's.
-fn compare<A: PartialEq + std::fmt::Debug>(
-    machine: &dyn Machine,
-    what: &str,
-    lent: &Lent,
-    call: impl Fn(&dyn Machine, &mut Lent) -> A,
-    report: &mut Report,
-) -> Outcome<A> {
-    let outcome = |machine: &dyn Machine| {
-        let mut left = lent.clone();
-        Outcome { answer: call(machine, &mut left), left }
-    };
-    let (given, expected) = (outcome(machine), outcome(&Model));
-    if given != expected {
-        report.disagree(what, || match lent.memory.len() {
-            0..20 => format!("from {lent:x?}\n  gives {given:x?}\n  expected {expected:x?}"),
-            length => format!("memory of {length} words, answered {:?}, expected {:?}", given.answer, expected.answer),
-        });
-    }
-    expected
-}
-
-/// Lengths that do not fit: steps, runs, loads and writes that must be refused and change nothing.
+/// Lengths that do not fit: steps, runs, replays, loads and writes that must be refused and change nothing.
 pub fn refusals(machine: &dyn Machine, report: &mut Report) {
     let mut random = Random::new(6);
     let lengths = [0, 1, 2, 3, 65535, 65536, 65537, 70000];
@@ -59,8 +18,9 @@ pub fn refusals(machine: &dyn Machine, report: &mut Report) {
         let lent = lent(core, vec![0x2000; memory], other, vec![0x2000_0001; other]);
         let step = |m: &dyn Machine, l: &mut Lent| m.step(&mut l.core, &mut l.memory, &mut l.marks);
         compare(machine, "a step over lent lengths", &lent, step, report);
-        let run = |m: &dyn Machine, l: &mut Lent| m.run(&mut l.core, &mut l.memory, &mut l.marks, 3);
-        compare(machine, "a run over lent lengths", &lent, run, report);
+        compare(machine, "a run over lent lengths", &lent, run(3), report);
+        compare(machine, "a logged run over lent lengths", &lent, run_logged(3), report);
+        compare(machine, "a replay over lent lengths", &lent, replay(memory, 3), report);
         compare_load_sheet(machine, &lent, report);
         compare_write_sheet(machine, &lent, report);
         compare_load_words(machine, core, &vec![0x1234; other], memory, report);
@@ -72,22 +32,22 @@ pub fn refusals(machine: &dyn Machine, report: &mut Report) {
 fn compare_load_words(machine: &dyn Machine, core: Core, words: &[u16], length: usize, report: &mut Report) {
     let load = |m: &dyn Machine, l: &mut Lent| m.load_words(&mut l.core, words, &mut l.memory);
     let lent = lent(core, vec![0xBEEF; length], 0, vec![]);
-    let Outcome { answer, left } = compare(machine, "loading a word list", &lent, load, report);
+    let Called { answer, left } = compare(machine, "loading a word list", &lent, load, report);
     if answer.is_ok() && left.memory[..] != SimpleMemory::with_content(words).data[..length] {
         report.disagree("loading a word list", || "with_content gives another memory".to_string());
     }
 }
 
-type Loaded = Outcome<Result<(), Refusal>>;
-type Written = Outcome<Result<usize, Refusal>>;
+type Loaded = Called<Result<(), Refusal>>;
+type Written = Called<Result<usize, Refusal>>;
 
 fn compare_load_sheet(machine: &dyn Machine, lent: &Lent, report: &mut Report) -> Loaded {
-    let load = |m: &dyn Machine, l: &mut Lent| m.load_sheet(&mut l.core, &l.sheet, &mut l.memory);
+    let load = |m: &dyn Machine, l: &mut Lent| m.load_sheet(&mut l.core, &l.records, &mut l.memory);
     compare(machine, "loading a sheet", lent, load, report)
 }
 
 fn compare_write_sheet(machine: &dyn Machine, lent: &Lent, report: &mut Report) -> Written {
-    let write = |m: &dyn Machine, l: &mut Lent| m.write_sheet(&l.core, &l.memory, &mut l.sheet);
+    let write = |m: &dyn Machine, l: &mut Lent| m.write_sheet(&l.core, &l.memory, &mut l.records);
     compare(machine, "writing a sheet", lent, write, report)
 }
 
@@ -146,7 +106,7 @@ pub fn sheets(machine: &dyn Machine, cases: usize, report: &mut Report) {
         let room = 10 + random.below(20);
         let written = compare_write_sheet(machine, &lent(core, memory, 0, vec![0xDEAD_BEEF; room]), report);
         if let Ok(count) = written.answer {
-            let sheet = written.left.sheet[..count].to_vec();
+            let sheet = written.left.records[..count].to_vec();
             let restored = compare_load_sheet(machine, &lent(Core::new(), vec![0xBEEF; length], 0, sheet), report).left;
             assert!(
                 restored.core == core && restored.memory == written.left.memory,

@@ -67,7 +67,7 @@ fn answer_words(outcome: Outcome, on: u16, off: u16) -> [u16; 3] {
         Outcome::Stepped | Outcome::Limit => [on, 0, 0],
         Outcome::Halted => [off, 0, 0],
         Outcome::Fault(fault) => [2, fault.number as u16, fault.value],
-        Outcome::Refused(_) | Outcome::Log(_) => unreachable!("the published Rust refuses nothing and has no log"),
+        Outcome::Refused(_) | Outcome::Log(_) => unreachable!("the published Rust refuses nothing and logs nothing"),
     }
 }
 
