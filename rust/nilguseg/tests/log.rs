@@ -322,3 +322,44 @@ fn a_size_that_no_memory_has_is_refused_first() {
         }
     }
 }
+
+/// The words of a text's lines: eight hexadecimal digits each, before a comment; other lines have none.
+fn words_in(text: &str) -> Vec<u32> {
+    let fields = text.lines().filter_map(|line| line.split('#').next()).flat_map(str::split_whitespace);
+    fields.filter(|field| field.len() == 8).map_while(|field| u32::from_str_radix(field, 16).ok()).collect()
+}
+
+/// The core and the memory of a sample as berth has them, the log of its run, and the core that it leaves.
+fn sample(sheet: &str) -> (Core, Vec<u32>, Core) {
+    let (mut start, mut memory, mut marks, mut log) = (Core::new(), vec![0; 32768], vec![0; 32768], vec![UNUSED; 64]);
+    assert_eq!(start.load_sheet(&words_in(sheet), &mut memory), Ok(()));
+    let mut core = start;
+    let run = core.run_logged(&mut memory, &mut marks, 1_000_000, &mut log);
+    assert_eq!(run.end, Outcome::Halted);
+    log.truncate(run.logged);
+    (start, log, core)
+}
+
+/// docs/LOGS.md shows the logs of two samples, and says what their replays leave.
+#[test]
+fn the_logs_that_the_page_shows() {
+    let page = include_str!("../../../docs/LOGS.md");
+    let (before_tie, tie) = page.split_once("## The tie").unwrap();
+    let shown =
+        |text: &str| words_in(&text.lines().filter(|line| line.starts_with("    4")).collect::<Vec<_>>().join("\n"));
+
+    let (start, mut log, end) = sample(include_str!("../../../samples/leftover.sheet"));
+    assert_eq!((shown(before_tie), end.r[1]), (log.clone(), 4));
+    log[7] = 0x5000_0007;
+    let mut seen = start;
+    assert_eq!((seen.replay(32768, 1_000_000, &log).end, seen.r[1]), (Outcome::Halted, 8));
+
+    let (start, log, end) = sample(include_str!("../../../samples/tie.sheet"));
+    assert_eq!((shown(tie), end.r[4]), (log.clone(), 1));
+    let mut seen = start;
+    assert_eq!(seen.replay(32768, 1_000_000, &log), Run { end: Outcome::Halted, steps: 11 });
+    assert_eq!(seen, end);
+    let mut exchanged = start;
+    exchanged.r.swap(2, 3);
+    assert_eq!((exchanged.replay(32768, 1_000_000, &log).steps, exchanged.r[4]), (11, 0));
+}
