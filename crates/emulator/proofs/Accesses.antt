@@ -15,7 +15,8 @@ use Rattle.instructions.specs.declared.ins.Instruction.{Instruction}
 use Rattle.instructions.specs.declared.ins.encoding.Decoded.{Decoded}
 use Rattle.instructions.specs.declared.reg.GeneralPurposeRegister.{GeneralPurposeRegister}
 use Rattle.emulator.specs.Core.{coreOf}
-use Rattle.emulator.specs.Log.{entryOf, replyLog, readsOf, readsLog, Logged, logged}
+use Rattle.emulator.specs.Log.{entryOf, replyLog, Logged, logged}
+use Rattle.emulator.specs.Parts.{readsOf, readsLog}
 use Rattle.emulator.specs.Memory.{Memory, accessed, readOf, writeOf}
 use Rattle.emulator.specs.Machine.{accessOf, planOf, Settled, Store, memoryStore, makeOf, Turn, turn, carryOut, cycleOf}
 use Rattle.emulator.specs.declared.effects.Applied.{Applied}

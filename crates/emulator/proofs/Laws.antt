@@ -9,14 +9,10 @@ use lib.Dec.{ltb, eqb}
 use lib.ListN.{length, getD, set}
 use borrow.Author.Tests.{lt-ltb, le-ltb, ltb-false, eqb-true, eq-eqb, ne-eqb}
 use Rattle.instructions.specs.Bounded.{Bounded}
-use Rattle.instructions.specs.Decoding.{decodeOf}
 use Rattle.instructions.specs.Reg.{gprNumber}
-use Rattle.instructions.specs.declared.ins.Instruction.{Instruction}
-use Rattle.instructions.specs.declared.ins.encoding.Decoded.{Decoded}
 use Rattle.instructions.specs.declared.reg.GeneralPurposeRegister.{GeneralPurposeRegister}
 use Rattle.instructions.specs.declared.reg.SpecialPurposeRegister.{SpecialPurposeRegister}
 use Rattle.instructions.specs.declared.reg.SpecialPurposeRegister.the-variants.{EF}
-use Rattle.execute.specs.Execute.{executeOf}
 use Rattle.execute.specs.Flags.{withCond}
 use Rattle.execute.specs.Registers.{registers}
 use Rattle.execute.specs.Word.{addWord, subWord}

@@ -1,7 +1,7 @@
 -- Laws of the log: one for each way through the code that writes it.
 use Prim.Native.Nat.{ℕ, suc, _+_, _-_, _≤_}
 use mathlib.Core.Bool.{Bool, true, false}
-use mathlib.Core.List.{List, [], _∷_, _++_}
+use mathlib.Core.List.{List, [], _++_}
 use mathlib.Core.Path.{_≡_, refl, sym, ap, _∙_}
 use native.Mathlib.Nat.{add-zero, zero-add}
 use native.Mathlib.Numerals.{add-one}
@@ -11,7 +11,8 @@ use lib.ListN.{length, set, length-append}
 use lib.Seq.{sets, length-sets}
 use borrow.Author.Tests.{ltb-false}
 use Rattle.instructions.specs.Choice.{if_then_else_}
-use Rattle.emulator.specs.Log.{addressWord, valueWord, entryOf, replyLog, readsOf, readsLog, roomOf, isFull, Written, written, writtenOf, appended}
+use Rattle.emulator.specs.Log.{addressWord, valueWord, entryOf, isFull, Written, written, writtenOf}
+use Rattle.emulator.specs.Parts.{readsOf, readsLog, roomOf, appended}
 use Rattle.emulator.specs.declared.effects.Reply.{Reply}
 use Rattle.emulator.specs.declared.log.Purpose.{Purpose}
 use Rattle.emulator.specs.declared.log.Reads.{Reads}

@@ -10,10 +10,11 @@ use mir.Syntax.{w32}
 use mir.Val.{Fits}
 use borrow.Author.Tests.{eq-eqb, ne-eqb}
 use Rattle.emulator.specs.Core.{isHalted}
-use Rattle.emulator.specs.Log.{readsLog, Logged, logged, Room, roomOf, isFull, Written, written, writtenOf, appended}
+use Rattle.emulator.specs.Log.{Logged, logged, isFull, Written, written}
+use Rattle.emulator.specs.Parts.{readsLog, roomOf, appended}
 use Rattle.emulator.specs.Memory.{Memory, lent}
 use Rattle.emulator.specs.Outcome.{Outcome, stepped, halted, limit, fault, refused, ended, stopOf, progressOf, answerOf, endOf, uncounted, answeredOf}
-use Rattle.emulator.specs.Machine.{Access, none, load, store, stop, Plan, planOf, Settled, settleOf, Store, memoryStore, makeOf, Turn, turn, onFetch, advanced, carryOut, cycleOf, refusalOf, unmarked, stepOf, Ran, ran, nextOf, Setting, setting, plain, loggingIn, runFrom, RanLogged, ranLogged, inBuffer, runIn, runOf, runLoggedOf}
+use Rattle.emulator.specs.Machine.{Access, none, load, store, stop, Plan, planOf, settleOf, Store, memoryStore, Turn, turn, onFetch, advanced, carryOut, cycleOf, refusalOf, unmarked, stepOf, Ran, ran, nextOf, Setting, setting, plain, loggingIn, runFrom, RanLogged, ranLogged, inBuffer, runIn, runOf, runLoggedOf}
 use Rattle.emulator.specs.declared.effects.Progress.{Progress}
 use Rattle.emulator.specs.declared.effects.Reply.{Reply}
 use Rattle.emulator.specs.declared.core.Answer.{Answer}
@@ -67,6 +68,10 @@ module _ {S : Type 0} (on : Store S) (plan : Core → ℕ → Plan) (given : Set
     unfolding runFrom
     run-turn f t = rw (left, q, f, ← t)
 
+-- a step more is counted
+pub one-more : {n most : ℕ} → Fits w32 most → n ≤ most → (n ≡ most → ⊥) → Fits w32 (n + 1)
+one-more f w below = let b = f .fits in record { fits = omega arith }
+
 -- the loop's invariant: what is left of the run is the whole run, and the buffer b holds the log so far, of k words
 abbrev settingOf : Bool → List ℕ → Setting
 settingOf keep b₀ = setting (roomOf keep (length b₀))
@@ -109,9 +114,8 @@ module _ {keep : Bool} {b₀ b : List ℕ} {most n k : ℕ} {c₀ c : Core} {m�
       (sym (ap (λ (j : ℕ). runFrom memoryStore planOf (settingOf keep b₀) j n c m (now .log)) none-left ∙ run-limit memoryStore planOf (settingOf keep b₀) c m n (now .log) (sym p ∙ q))
       ∙ now .rest)
 
-  -- a step more is counted
   pub counts : (n ≡ most → ⊥) → Fits w32 (n + 1)
-  counts below = let f = now .bounded .fits in let w = now .within in record { fits = omega arith }
+  counts = one-more (now .bounded) (now .within)
 
   pub room-within : k ≤ length b
   room-within = keeping-room (now .keeping)

@@ -4,10 +4,8 @@ use mathlib.Core.Bool.{Bool, true, false}
 use mathlib.Core.List.{List, [], _∷_, _++_}
 use lib.Dec.{ltb}
 use lib.ListN.{length, drop}
-use lib.Seq.{sets}
 use Rattle.emulator.specs.declared.effects.Reply.{Reply}
 use Rattle.emulator.specs.declared.log.Purpose.{Purpose}
-use Rattle.emulator.specs.declared.log.Reads.{Reads}
 use Rattle.emulator.specs.declared.memory.Read.{Read}
 
 -- bit 16 is set for a fetch
@@ -37,17 +35,6 @@ replyLog Reply.Done = []
 replyLog (Reply.Word a w) = entryOf Purpose.Read a w
 replyLog (Reply.Stopped s) = []
 
--- the reads of a cycle, of the word that it fetches and the reply to its access, and their log words, the fetch being at ip
-abbrev pub readsOf : ℕ → Reply → Reads
-readsOf w Reply.Done = Reads.Fetch w
-readsOf w (Reply.Word a v) = Reads.FetchAndLoad w a v
-readsOf w (Reply.Stopped s) = Reads.Fetch w
-
-abbrev pub readsLog : ℕ → Reads → List ℕ
-readsLog ip Reads.None = []
-readsLog ip (Reads.Fetch w) = entryOf Purpose.Fetch ip w
-readsLog ip (Reads.FetchAndLoad w a v) = entryOf Purpose.Fetch ip w ++ entryOf Purpose.Read a v
-
 -- what is done, with the log words of the reads that it made
 pub record Logged (A : Type 0) : Type 0 where
   pub result : A
@@ -60,10 +47,6 @@ logged x l = record { result = x; log = l }
 pub data Room : Type 0 where
   none : Room
   words : ℕ → Room
-
-abbrev pub roomOf : Bool → ℕ → Room
-roomOf false n = none
-roomOf true n = words n
 
 -- whether fewer than four log words are free, once there are k
 abbrev pub isFull : Room → ℕ → Bool
@@ -82,8 +65,3 @@ written n b = record { count = n; buffer = b }
 abbrev pub writtenOf : Room → List ℕ → List ℕ → Written
 writtenOf none l b = written 0 b
 writtenOf (words n) l b = written (length l) (l ++ drop (length l) b)
-
--- the same, after k log words: those of one turn more
-abbrev pub appended : Bool → ℕ → List ℕ → List ℕ → Written
-appended false k l b = written k b
-appended true k l b = written (k + length l) (sets b k l)

@@ -5,7 +5,8 @@ ghost use mathlib.Core.Path.{_≡_};
 ghost use Prim.Native.Nat.{_+_, _≤_};
 ghost use lib.ListN.{length};
 ghost use lib.Seq.{sets};
-ghost use Rattle.emulator.specs.Log.{addressWord, entryOf, readsOf, readsLog, roomOf, isFull, written, appended};
+ghost use Rattle.emulator.specs.Log.{addressWord, entryOf, isFull, written};
+ghost use Rattle.emulator.specs.Parts.{readsOf, readsLog, roomOf, appended};
 
 // What a read is made for.
 pub enum Purpose {

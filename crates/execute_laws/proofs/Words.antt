@@ -1,7 +1,7 @@
 -- An instruction that sees 16-bit words leaves 16-bit words.
 use Prim.Native.Nat.{ℕ, _-_, _/_, _%_, _^_, _<_}
 use mathlib.Core.Bool.{Bool, true, false, not}
-use mathlib.Core.Path.{_≡_, subst}
+use mathlib.Core.Path.{subst}
 use native.Mathlib.Nat.{lt-of-le-of-lt}
 use native.Mathlib.Omega.{arith}
 use lib.Bits.{and-lt, or-lt, xor-lt}
@@ -26,7 +26,7 @@ use Rattle.instructions.proofs.Cases.{if-elim}
 use Rattle.execute_laws.specs.Words.{IsWord, RegistersFit, EffectFits, Words}
 
 -- what the arithmetic of the table leaves is a word
-reduced : (n : ℕ) → IsWord (n % 65536)
+pub reduced : (n : ℕ) → IsWord (n % 65536)
 reduced n = omega arith
 
 low : {a b : ℕ} → IsWord a → b < 256 → IsWord (withLow a b)

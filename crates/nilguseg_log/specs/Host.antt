@@ -1,5 +1,5 @@
 -- What a host sees of a logged run (document 02, CR 2, in the layout of the header).
-use Prim.Native.Nat.{ℕ, _+_, _*_, _^_}
+use Prim.Native.Nat.{_+_, _*_, _^_}
 use mathlib.Core.List.{[], _∷_}
 use Rattle.emulator.specs.Machine.{RanLogged}
 use Rattle.nilguseg.specs.Host.{wordsOf, outcomeNumber, Call, call}

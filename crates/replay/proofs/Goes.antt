@@ -1,7 +1,7 @@
 -- Laws of the way along the log: one for each way through an access and a cycle.
 use Prim.Native.Nat.{ℕ, _+_, _≤_, _<_}
-use mathlib.Core.Bool.{Bool, true, false}
-use mathlib.Core.List.{List, [], _∷_, _++_, append-nil, append-assoc, append-cancel-left}
+use mathlib.Core.Bool.{true, false}
+use mathlib.Core.List.{List, [], _++_, append-nil, append-assoc, append-cancel-left}
 use mathlib.Core.Path.{_≡_, refl, sym, ap, _∙_}
 use native.Mathlib.Omega.{arith}
 use lib.ListN.{length, take, drop, take-append-drop}
@@ -20,9 +20,9 @@ use Rattle.execute.specs.Word.{addWord}
 use Rattle.execute.specs.declared.effect.Effect.{Effect}
 use Rattle.execute.specs.declared.effect.Effect.the-variants as effect
 use Rattle.emulator.specs.Core.{coreOf}
-use Rattle.emulator.specs.Log.{entryOf, readLog, replyLog, Logged}
-use Rattle.emulator.specs.Memory.{Accessed, accessed}
-use Rattle.emulator.specs.Machine.{accessOf, planOf, readReply, Settled, makeOf, Turn, turn, carryOut, cycleOf}
+use Rattle.emulator.specs.Log.{entryOf, readLog}
+use Rattle.emulator.specs.Memory.{accessed}
+use Rattle.emulator.specs.Machine.{accessOf, planOf, Settled, makeOf, turn, carryOut, cycleOf}
 use Rattle.emulator.specs.declared.effects.Applied.{Applied}
 use Rattle.emulator.specs.declared.effects.Reply.{Reply}
 use Rattle.emulator.specs.declared.log.Purpose.{Purpose}
@@ -33,7 +33,7 @@ use Rattle.emulator.proofs.Accesses.{unread, access-none}
 use Rattle.emulator.proofs.Keeps.{read-replied}
 use Rattle.emulator.proofs.Laws.{left, off, applied}
 use Rattle.replay.specs.Places.{isRead, foundOf, Along, Off, Replies, Goes}
-use Rattle.replay.specs.Replay.{Tape, tape, wordIn, readTape, writeTape, tapeStore}
+use Rattle.replay.specs.Replay.{tape, wordIn, readTape, writeTape, tapeStore}
 use Rattle.replay.specs.declared.cycle.Turned.{Turned}
 use Rattle.replay.specs.declared.tape.Found.{Found}
 use Rattle.replay.specs.declared.tape.Recorded.{Recorded}

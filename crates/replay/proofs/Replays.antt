@@ -14,7 +14,7 @@ use Rattle.instructions.proofs.Cases.{by-test}
 use Rattle.emulator.specs.Core.{coreOf, isHalted}
 use Rattle.emulator.specs.Log.{Logged, logged, readLog}
 use Rattle.emulator.specs.Memory.{refusedLength}
-use Rattle.emulator.specs.Outcome.{Outcome, halted, limit, stopOf, progressOf, endOf, ended, refused}
+use Rattle.emulator.specs.Outcome.{Outcome, progressOf, endOf, ended, refused}
 use Rattle.emulator.specs.Machine.{planOf, Store, Turn, turn, cycleOf, Ran, ran, nextOf, plain, runFrom}
 use Rattle.emulator.specs.declared.core.Core.{Core}
 use Rattle.emulator.specs.declared.core.Run.{Run}
@@ -23,7 +23,7 @@ use Rattle.emulator.specs.declared.effects.Applied.{Applied}
 use Rattle.emulator.specs.declared.effects.Progress.{Progress}
 use Rattle.emulator.specs.declared.stop.Stop.{Stop}
 use Rattle.emulator.proofs.Keeps.{Leads, next-leads, run-leads}
-use Rattle.emulator.proofs.Runs.{stop-elim, run-halted, run-limit, run-turn}
+use Rattle.emulator.proofs.Runs.{stop-elim, run-halted, run-limit, run-turn, one-more}
 use Rattle.replay.specs.Places.{Along, Off, Goes, finishedOf}
 use Rattle.replay.specs.Replay.{Tape, tape, tapeStore, same, Replayed, replayed, answerOf, replayOf}
 use Rattle.replay.specs.declared.cycle.Turned.{Turned}
@@ -96,9 +96,8 @@ module _ (size : ℕ) (l : List ℕ) (most : ℕ) (c₀ : Core) where
       )
 
 module _ {size : ℕ} {l : List ℕ} {most : ℕ} {c₀ c : Core} {n k : ℕ} (now : Replaying size l most c₀ c n k) where
-  -- a step more is counted
   pub counts : (n ≡ most → ⊥) → Fits w32 (n + 1)
-  counts below = let f = now .bounded .fits in let w = now .within in record { fits = omega arith }
+  counts = one-more (now .bounded) (now .within)
 
   pub replay-halted : {h : Bool} → h ≡ isHalted c → h ≡ true
       → finishedOf c₀ (length l) (record { core = c; steps = n; end = End.Halted }) k ≡ answer size l most c₀

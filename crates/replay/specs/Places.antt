@@ -14,7 +14,6 @@ use Rattle.emulator.specs.Outcome.{progressOf, endOf, ended}
 use Rattle.emulator.specs.Machine.{Turn, turn}
 use Rattle.emulator.specs.declared.core.Core.{Core}
 use Rattle.emulator.specs.declared.core.Run.{Run}
-use Rattle.emulator.specs.declared.effects.Applied.{Applied}
 use Rattle.emulator.specs.declared.effects.Reply.{Reply}
 use Rattle.emulator.specs.declared.log.Purpose.{Purpose}
 use Rattle.emulator.specs.declared.stop.Stop.the-variants.{OutOfRange}

@@ -1,17 +1,16 @@
 -- The replay of a run's log is the run: the run on memory and the run on its log go side by side. Nothing here looks at an instruction.
 use Prim.Native.Nat.{ℕ, _%_}
-use mathlib.Core.Bool.{true, false}
+use mathlib.Core.Bool.{false}
 use mathlib.Core.List.{List, [], _++_, append-nil, append-assoc, append-cancel-left}
 use mathlib.Core.Path.{_≡_, refl, sym, ap, _∙_}
 use native.Mathlib.Omega.{arith}
 use lib.Dec.{ltb}
-use lib.ListN.{length, getD, drop, set, length-set}
+use lib.ListN.{length, getD, drop, length-set}
 use Rattle.instructions.proofs.Cases.{if-elim, if-both, by-test}
 use Rattle.execute_laws.specs.Words.{IsWord}
 use Rattle.emulator.specs.Log.{entryOf, readLog, Logged}
 use Rattle.emulator.specs.Memory.{Memory, lent, refusedLength, markRead, Accessed, accessed, readOf, writeOf}
-use Rattle.emulator.specs.Machine.{Plan, planOf, memoryStore, refusalOf, unmarked, Ran, Setting, plain, runFrom, runIn}
-use Rattle.emulator.specs.declared.core.Core.{Core}
+use Rattle.emulator.specs.Machine.{planOf, memoryStore, refusalOf, unmarked, Ran, plain, runFrom}
 use Rattle.emulator.specs.declared.log.Purpose.{Purpose}
 use Rattle.emulator.specs.declared.memory.Read.{Read}
 use Rattle.emulator.specs.declared.memory.Write.{Write}

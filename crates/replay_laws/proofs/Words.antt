@@ -1,9 +1,8 @@
 -- Words stay 16-bit: what an instruction leaves to the registers and to memory, of a core that holds words.
-use Prim.Native.Nat.{ℕ, _%_}
+use Prim.Native.Nat.{ℕ}
 use mathlib.Core.List.{List}
 use mathlib.Core.Path.{_≡_, refl}
 use mathlib.Core.Logic.{⊎-elim}
-use native.Mathlib.Omega.{arith}
 use lib.Dec.{ltb}
 use lib.ListN.{length, getD, set}
 use lib.Seq.{getD-set-same, getD-set-other, set-out}
@@ -15,11 +14,10 @@ use Rattle.instructions.specs.declared.ins.encoding.Decoded.{Decoded}
 use Rattle.instructions.specs.declared.reg.GeneralPurposeRegister.{GeneralPurposeRegister}
 use Rattle.execute.specs.Execute.{executeOf}
 use Rattle.execute.specs.Registers.{registers}
-use Rattle.execute.specs.Word.{addWord, subWord}
 use Rattle.execute.specs.declared.effect.Effect.{Effect}
 use Rattle.execute.specs.declared.effect.Effect.the-variants as effect
 use Rattle.execute_laws.specs.Words.{IsWord, EffectFits}
-use Rattle.execute_laws.proofs.Words.{words}
+use Rattle.execute_laws.proofs.Words.{reduced, words}
 use Rattle.emulator.specs.Core.{writeGpr}
 use Rattle.emulator.specs.Machine.{afterOf, accessOf, loaded, planOf, decodedPlan, advanced}
 use Rattle.emulator.specs.declared.core.Core.{Core}
@@ -37,9 +35,6 @@ set-fits l k v w h a =
     (λ t. rw (set-out l k v (ltb-false _ _ t)) (h k))))
     (λ n. rw (getD-set-other l k a v 0 n) (h a))
     (same-or-not k a)
-
-reduced : (n : ℕ) → IsWord (n % 65536)
-reduced n = omega arith
 
 -- a core with one register changed to a word
 gpr-fits : (c : Core) (r : GeneralPurposeRegister) (v : ℕ) → CoreFits c → IsWord v → CoreFits (writeGpr c r v)

@@ -6,7 +6,7 @@ use Rattle.execute.specs.Registers.{registers}
 use Rattle.execute_laws.specs.Words.{IsWord, RegistersFit}
 use Rattle.emulator.specs.Log.{Logged}
 use Rattle.emulator.specs.Memory.{Memory}
-use Rattle.emulator.specs.Machine.{Plan, planOf, Ran, Setting, refusalOf, runIn}
+use Rattle.emulator.specs.Machine.{planOf, Ran, Setting, refusalOf, runIn}
 use Rattle.emulator.specs.declared.core.Core.{Core}
 use Rattle.replay.specs.Replay.{Replayed, replayed, replayOf}
 use Rattle.run_laws.specs.Agreement.{HasRoom}

@@ -10,7 +10,7 @@ use lib.ListN.{length, getD, set, replicate, length-set, length-replicate}
 use lib.Seq.{getD-set-same, getD-set-other}
 use borrow.Author.Tests.{ltb-true}
 use Rattle.instructions.proofs.Cases.{if-both}
-use Rattle.run_laws.specs.Agreement.{wordAt, markAt, Agree, AgreeLogged, Compared, equal-room, enough-room, AgreementOf, Agreement, PlainAgreement}
+use Rattle.run_laws.specs.Agreement.{wordAt, markAt, AgreeLogged, equal-room, enough-room, AgreementOf, Agreement, PlainAgreement}
 use Rattle.emulator.specs.Log.{Logged, logged}
 use Rattle.emulator.specs.Memory.{Memory, lent, wasRead, wasWritten, readMark, writeMark, markRead, markWrite, Accessed, readOf, writeOf, Below}
 use Rattle.emulator.specs.Machine.{Plan, planOf, Access, none, load, store, stop, advanced, memoryStore, refusalOf, unmarked, Ran, ran, Setting, plain, runFrom, runIn, runOf}
@@ -22,7 +22,7 @@ use Rattle.emulator.proofs.Marks.{written-cases, same-or-not, read-sets, write-
 use Rattle.emulator.proofs.Laws.{accepted-marked}
 use Rattle.emulator.proofs.Runs.{accepted-run}
 use Rattle.emulator.proofs.Keeps.{Leads, kept-leads}
-use Rattle.run_laws.proofs.Simulation.{ReadFits, AccessFits, Same, Simulates, RanTwins, twin-run}
+use Rattle.run_laws.proofs.Simulation.{ReadFits, AccessFits, Same, Simulates, twin-run}
 use Rattle.run_laws.proofs.Logs.{logged-plain}
 
 -- The two runs: the words that they start with are M and N, and the first one's final marks F.

@@ -2,7 +2,7 @@
 -- Nothing here looks at an instruction.
 use Prim.Native.Nat.{ℕ, zero, suc, _+_}
 use mathlib.Core.List.{List, [], _++_, append-nil, append-assoc}
-use mathlib.Core.Path.{_≡_, refl, sym, ap, _∙_, subst}
+use mathlib.Core.Path.{_≡_, refl, sym, ap, subst}
 use lib.ListN.{length}
 use Rattle.instructions.proofs.Cases.{if-both}
 use Rattle.instructions.specs.declared.reg.GeneralPurposeRegister.{GeneralPurposeRegister}
@@ -10,7 +10,7 @@ use Rattle.emulator.specs.Core.{isHalted}
 use Rattle.emulator.specs.Log.{readLog, replyLog, Logged, logged, isFull}
 use Rattle.emulator.specs.Memory.{Accessed, accessed}
 use Rattle.emulator.specs.Outcome.{Outcome}
-use Rattle.emulator.specs.Machine.{Access, none, load, store, stop, Plan, loaded, Settled, settleOf, Store, readReply, writeReply, makeOf, Turn, turn, settledTurn, carryOut, onFetch, afterFetch, advanced, cycleOf, Ran, ran, isStepped, nextOf, Setting, runFrom}
+use Rattle.emulator.specs.Machine.{Access, none, load, store, stop, Plan, loaded, settleOf, Store, readReply, writeReply, makeOf, Turn, turn, settledTurn, carryOut, afterFetch, advanced, cycleOf, Ran, ran, isStepped, nextOf, Setting, runFrom}
 use Rattle.emulator.specs.declared.effects.Reply.{Reply}
 use Rattle.emulator.specs.declared.core.Core.{Core}
 use Rattle.emulator.specs.declared.log.Purpose.{Purpose}
