@@ -13,7 +13,7 @@ use Rattle.emulator.specs.declared.core.Answer.{Answer}
 use Rattle.emulator.specs.declared.core.Answer.the-variants as answers
 
 -- `fault` has the stop's number and the value in brackets, `refused` the number of the host test, `ended` that of an end by the log
--- (document 02, CR 2): 30, fewer than four log words are free
+-- (document 02, CR 2): 30, fewer than four log words are free, or 31, a replay's reads aren't the log's
 pub data Outcome : Type 0 where
   stepped : Outcome
   halted : Outcome

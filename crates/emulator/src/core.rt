@@ -160,6 +160,7 @@ impl Core {
                 answer: Answer::Refused(refused),
             };
         }
+        // no log, so that the buffer stays as it is
         let mut unused = [0u32; 1];
         let t = turns(self, memory, marks, 1, false, &mut unused);
         let core = t.core;
@@ -181,6 +182,7 @@ impl Core {
             };
         }
         clear(marks);
+        // no log, so that the buffer stays as it is
         let mut unused = [0u32; 1];
         let t = turns(self, memory, marks, limit, false, &mut unused);
         let core = t.core;

@@ -30,7 +30,8 @@ ghost use Rattle.emulator.specs.Memory.{lent, accessed};
 ghost use Rattle.emulator.specs.Outcome.{progressOf, endOf};
 ghost use Rattle.emulator.specs.Machine.{accessOf, planOf, memoryStore, makeOf, turn, carryOut, cycleOf, ran, ranLogged, inBuffer, setting, runFrom};
 
-// How a run ends. `Refused` has the number of the host test, `Log` that of an end by the log: 30, fewer than four of its words are free.
+// How a run ends. `Refused` has the number of the host test, `Log` that of an end by the log: 30, fewer than four of its words are free, or
+// 31, a replay's reads aren't its words.
 pub enum End {
     Halted,
     Limit,
@@ -85,7 +86,7 @@ fn access(effect: Effect, memory: &mut [u16], marks: &mut [u8]) -> Reply
     }
 }
 
-// Decodes the word, executes it, and makes its access.
+// Decodes the word, executes it, makes its access, and changes the registers.
 fn obey(
     word: u16,
     gprs: &mut [u16; 8],

@@ -32,7 +32,7 @@ enum Turned {
     Mismatch,
 }
 
-// Decodes the word, executes it, and makes its access on the log.
+// Decodes the word, executes it, makes its access on the log, and changes the registers.
 fn obey(
     word: u16,
     gprs: &mut [u16; 8],
