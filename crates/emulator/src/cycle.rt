@@ -127,13 +127,13 @@ fn cycle(
     requires { ⌜ length (now marks) ≡ length (now memory) ⌝ }
     ensures { λ r. ⌜ logged (turn (progressOf (r .applied .progress)) (coreOf (now (gprs .exit)) (r .applied .ip) (r .applied .rp) (r .applied .sp) (r .applied .ef)) (lent (now (memory .exit)) (now (marks .exit)))) (readsLog ip (r .reads)) ≡ cycleOf memoryStore planOf (coreOf (now (gprs .entry)) ip rp sp ef) (lent (now (memory .entry)) (now (marks .entry))) ⌝ }
 {
+    let next = execute::add(ip, 1);
     match fetch_word(memory, marks, ip) {
         Read::Stopped(stop) => Cycled {
             applied: faulted(ip, rp, sp, ef, stop),
             reads: Reads::None,
         },
         Read::Word(word) => {
-            let next = execute::add(ip, 1);
             let o = obey(word, gprs, next, rp, sp, ef, memory, marks);
             let applied = o.applied;
             let reply = o.reply;

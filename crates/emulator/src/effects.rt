@@ -81,15 +81,18 @@ pub fn apply(
             address: _,
             into,
             raise,
-        } => match reply {
-            Reply::Done => stepped(ip, rp, sp, ef),
-            Reply::Word { address: _, word } => {
-                let i = into.encode() as usize;
-                gprs[i] = word;
-                stepped(ip, rp, execute::add(sp, raise), ef)
+        } => {
+            let raised = execute::add(sp, raise);
+            match reply {
+                Reply::Done => stepped(ip, rp, sp, ef),
+                Reply::Word { address: _, word } => {
+                    let i = into.encode() as usize;
+                    gprs[i] = word;
+                    stepped(ip, rp, raised, ef)
+                }
+                Reply::Stopped(stop) => faulted(ip, rp, sp, ef, stop),
             }
-            Reply::Stopped(stop) => faulted(ip, rp, sp, ef, stop),
-        },
+        }
         Effect::Store {
             address: _,
             value: _,

@@ -52,9 +52,8 @@ pub fn read_word(memory: &[u16], marks: &mut [u8], address: u16) -> Read
     if memory.len() <= at {
         return Read::Stopped(Stop::OutOfRange(address));
     }
-    let word = memory[at];
     marks[at] = read_mark(marks[at]);
-    Read::Word(word)
+    Read::Word(memory[at])
 }
 
 // The word at an address, read to be executed.
