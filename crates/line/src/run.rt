@@ -3,7 +3,6 @@ use crate::put::put_byte;
 use crate::put::put_field;
 use crate::put::put_fields;
 use crate::put::put_word;
-use emulator::Core;
 use emulator::End;
 use emulator::Run;
 use sheet::Loaded;
@@ -17,14 +16,15 @@ ghost use Rattle.line.specs.Line.{fields, stateOf, refusedLine, endLine,
 ghost use Rattle.line.specs.Put.{Put, AtFront};
 
 // Puts what a run leaves, and the line feed: at most 84 bytes.
-fn put_state(out: &mut [u8; 128], at: usize, steps: u32, core: Core) -> usize
+fn put_state(out: &mut [u8; 128], at: usize, run: Run) -> usize
     requires { ⌜ at ≤ 44 ⌝ }
-    ensures { λ r. ⌜ Put (now (out .entry)) (now (out .exit)) at r (fields (stateOf steps core) ++ 10 ∷ []) ⌝ }
+    ensures { λ r. ⌜ Put (now (out .entry)) (now (out .exit)) at r (fields (stateOf (run .steps) (run .core)) ++ 10 ∷ []) ⌝ }
     ensures { λ r. ⌜ r ≤ 128 ⌝ }
 {
+    let core = run.core;
     let special = [core.ip, core.rp, core.sp, core.ef];
     let general = core.gprs;
-    let counted = put_field(out, at, steps);
+    let counted = put_field(out, at, run.steps);
     let specials = put_fields(out, counted, &special);
     let generals = put_fields(out, specials, &general);
     put_byte(out, generals, b'\n')
@@ -43,23 +43,22 @@ fn put_refused(out: &mut [u8; 128], number: u8) -> usize
 fn put_run(out: &mut [u8; 128], run: Run) -> usize
     ensures { λ r. ⌜ AtFront (now (out .entry)) (now (out .exit)) r (endLine (endOf (run .end)) (run .steps) (run .core)) ⌝ }
 {
-    let core = run.core;
     let end = run.end;
     match end {
         End::Halted => {
             let at = put_word(out, b"halted");
-            put_state(out, at, run.steps, core)
+            put_state(out, at, run)
         }
         End::Limit => {
             let at = put_word(out, b"limit");
-            put_state(out, at, run.steps, core)
+            put_state(out, at, run)
         }
         End::Fault(stop) => {
             let fault = stop.fault();
             let stopped = [fault.number as u16, fault.value];
             let word = put_word(out, b"fault");
             let at = put_fields(out, word, &stopped);
-            put_state(out, at, run.steps, core)
+            put_state(out, at, run)
         }
         End::Refused(number) => put_refused(out, number),
         End::Log(_) => 0,

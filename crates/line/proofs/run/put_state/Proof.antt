@@ -9,14 +9,14 @@ use Rattle.line.proofs.run.put_state.Statement.{statement}
 use Rattle.line.proofs.run.put_state.Tie as tie
 
 -- there are eight general registers
-eight : (c : tie.After-general) → length (c .before .args .core .gprs) ≡ 8
+eight : (c : tie.After-general) → length (c .before .before .args .run .core .gprs) ≡ 8
 eight c = search needs
 
 pub put-state-spec : {M : Type 1} → statement M
 put-state-spec =
     tie.close
     (tie.spec
-    (λ c κs. let ten = field-32 (c .before .before .args .steps) (omega arith) in omega arith)
+    (λ c κs. let ten = field-32 (c .before .before .before .args .run .steps) (omega arith) in omega arith)
     (λ c. search needs)
     (λ c κs. omega arith)
     (λ c. search needs)
