@@ -1,4 +1,6 @@
 // The opcode of a word, by ranges of its upper byte and then of its lower byte: the first half of decoding.
+#![tactic(auto)]
+
 ghost use Rattle.std.specs.Prelude.{◌≡◌, ◌<◌, ◌≤◌};
 ghost use Rattle.opcode.specs.Opcode.{single_of, general_of, general_or_decimal_of, paired_of, memory_of, moves_of, pointer_of, stack_of, slots_of, ands_of, unary_of, zero_of, calls_of, opcode_of};
 
