@@ -1,4 +1,6 @@
 // The instruction set of the Delta Null core: registers, instructions, and the words that stand for them.
+#![tactic(auto)]
+
 mod ins;
 mod reg;
 
