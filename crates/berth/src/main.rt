@@ -1,4 +1,6 @@
 // The program `berth`: reads a rule sheet from standard input, runs it, and prints one line.
+#![tactic(auto)]
+
 use libc::{STDIN_FILENO, STDOUT_FILENO};
 use line::line_of;
 

@@ -1,4 +1,6 @@
 // Runs sheets and other inputs through `line_of`, and prints each line after its label.
+#![tactic(auto)]
+
 ghost use Rattle.std.specs.Prelude.{◌*◌, ◌≤◌, ◌≡◌, length, take};
 
 use libc::STDOUT_FILENO;

@@ -1,4 +1,6 @@
 // The emulator: the core record, memory with marks, one step, and the run.
+#![tactic(auto)]
+
 mod core;
 mod cycle;
 mod effects;

@@ -1,4 +1,6 @@
 // What one instruction does, on plain numbers: no core record and no memory.
+#![tactic(auto)]
+
 mod effect;
 mod flags;
 mod word;

@@ -1,5 +1,7 @@
 // Runs a short rule with a log, in more and more room, and prints how it ends and what it logs; then the replays of that log, as it is, longer,
 // shorter, and with one word changed.
+#![tactic(auto)]
+
 use emulator::{Core, End};
 use replay::replay;
 

@@ -1,5 +1,7 @@
 // What C and Rust hosts call to load, run and write, and to compare word lists. A slice is a pointer and then a length, an array a pointer.
 // `Instruction::decode` must have no caller here but the cycle, or it is not inlined into the run: see `nilguseg_words`.
+#![tactic(auto)]
+
 ghost use Rattle.core.specs.Prelude.{◌≡◌, [], ◌∷◌};
 ghost use Rattle.emulator.specs.Memory.{lent};
 ghost use Rattle.emulator.specs.Machine.{plan_of, step_of, run_of};

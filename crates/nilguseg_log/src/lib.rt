@@ -1,5 +1,7 @@
 // What C and Rust hosts call to run with a log. It stands in a library of its own: where the loop of cycles is called with a log and without
 // one, each step tests which it is, and the plain run would lose by it.
+#![tactic(auto)]
+
 ghost use Rattle.std.specs.Prelude.{[], ◌∷◌, ◌≡◌};
 ghost use Rattle.emulator.specs.Memory.{lent};
 ghost use Rattle.emulator.specs.Machine.{plan_of, run_logged_of};

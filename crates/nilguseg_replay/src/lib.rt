@@ -1,5 +1,7 @@
 // What C and Rust hosts call to see a run again from its log. It stands in a library of its own: in one with a run, `Instruction::decode` and
 // `execute` would have two callers, and the compiler would inline them into neither loop.
+#![tactic(auto)]
+
 ghost use Rattle.std.specs.Prelude.{[], ◌∷◌, ◌≡◌};
 ghost use Rattle.emulator.specs.Machine.{plan_of};
 ghost use Rattle.nilguseg.specs.Host.{core_from, call};

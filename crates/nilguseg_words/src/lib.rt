@@ -1,5 +1,7 @@
 // What C and Rust hosts call to decode and encode. A static library of its own: in one with the run, a second call of
 // `Instruction::decode` keeps the compiler from inlining it there, and a step takes about twice as long.
+#![tactic(auto)]
+
 ghost use Rattle.std.specs.Prelude.{◌≡◌};
 ghost use Rattle.instructions.specs.Decoding.{decode_of};
 ghost use Rattle.nilguseg_words.specs.Instruction.{decoded_number, encoded_number};

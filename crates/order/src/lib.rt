@@ -1,4 +1,6 @@
 // Which of two word lists comes first. They are compared at the first place where they differ, the shorter taken as followed by zeros.
+#![tactic(auto)]
+
 ghost use Rattle.std.specs.Prelude.{◌≡◌, min, max, length};
 ghost use Rattle.order.specs.Order.{word_in, place_of, by_words, order_of, earlier_of, part_of, slice_of, from_place, earlier_part};
 

@@ -1,5 +1,7 @@
 // Compares lists with each other, and prints a table of the short ones and a line for each two of the long ones. A cell is the order, the place from which
 // on the part of the earlier list is, and after a colon the part; of a long list, how long the part is, and its first word.
+#![tactic(auto)]
+
 use order::Order;
 
 fn text(s: &[u8]) {

@@ -1,4 +1,6 @@
 // The replay of a run from its log, without its memory.
+#![tactic(auto)]
+
 mod cycle;
 mod tape;
 

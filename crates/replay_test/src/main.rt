@@ -1,5 +1,7 @@
 // Replays recorded answers of the published Rust (rust/differential/README.md has the format of standard input) and counts those that
 // differ.
+#![tactic(auto)]
+
 mod case;
 
 use crate::case::{CASE, replay};

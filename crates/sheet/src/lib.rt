@@ -1,4 +1,6 @@
 // Word lists and rule sheets, read into memory and written from it.
+#![tactic(auto)]
+
 mod fields;
 mod input;
 mod load;

@@ -1,4 +1,6 @@
 // Loads and writes sheets and word lists of every kind and prints a line for each: what was given, the answer, what it left.
+#![tactic(auto)]
+
 mod cases;
 mod input;
 mod load;

@@ -1,5 +1,7 @@
 // Decodes all 65,536 words, as an instruction and as the number of a register of each sort, encodes what they stand for again, and prints
 // how many are of each kind and sort.
+#![tactic(auto)]
+
 use instructions::{DR, Decoded, DecodedDR, DecodedGPR, DecodedSPR, GPR, Instruction, SPR};
 use libc::STDOUT_FILENO;
 
