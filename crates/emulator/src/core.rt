@@ -11,7 +11,7 @@ use crate::memory::{clear, refuses_length};
 use crate::stop::Stop;
 use instructions::{GPR, SPR};
 
-#[derive(Drop)]
+#[derive(Clone, Copy)]
 pub struct Core {
     pub gprs: [u16; 8],
     pub ip: u16,
@@ -21,7 +21,7 @@ pub struct Core {
 }
 
 // What a step answers. `Refused` has the number of the host test.
-#[derive(Drop)]
+#[derive(Clone, Copy)]
 pub enum Answer {
     Stepped,
     Halted,
@@ -29,14 +29,14 @@ pub enum Answer {
     Refused(u8),
 }
 
-#[derive(Drop)]
+#[derive(Clone, Copy)]
 pub struct Step {
     pub core: Core,
     pub answer: Answer,
 }
 
 // A run: the core that it leaves, the steps counted, and its end.
-#[derive(Drop)]
+#[derive(Clone, Copy)]
 pub struct Run {
     pub core: Core,
     pub steps: u32,

@@ -18,7 +18,7 @@ use instructions::{Decoded, Instruction};
 
 // How a run ends. `Refused` has the number of the host test, `Log` that of an end by the log: 30, fewer than four of its words are free, or
 // 31, a replay's reads aren't its words.
-#[derive(Drop)]
+#[derive(Clone, Copy)]
 pub enum End {
     Halted,
     Limit,
@@ -28,21 +28,21 @@ pub enum End {
 }
 
 // What a word leaves, once it is fetched: the special registers, what it comes to, and the reply to its access.
-#[derive(Drop)]
+#[derive(Clone, Copy)]
 struct Obeyed {
     applied: Applied,
     reply: Reply,
 }
 
 // What a cycle leaves: the same with its reads.
-#[derive(Drop)]
+#[derive(Clone, Copy)]
 struct Cycled {
     applied: Applied,
     reads: Reads,
 }
 
 // What a run leaves: the core, the steps counted, its end, and the number of its log words.
-#[derive(Drop)]
+#[derive(Clone, Copy)]
 pub struct LoggedRun {
     pub core: Core,
     pub steps: u32,

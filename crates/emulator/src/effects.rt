@@ -8,7 +8,7 @@ use crate::stop::Stop;
 use execute::Effect;
 
 // What an access comes to: nothing was to be read, a word was read at an address, or a stop.
-#[derive(Drop)]
+#[derive(Clone, Copy)]
 pub enum Reply {
     Done,
     Word { address: u16, word: u16 },
@@ -16,14 +16,14 @@ pub enum Reply {
 }
 
 // What a cycle of a core that runs comes to.
-#[derive(Drop)]
+#[derive(Clone, Copy)]
 pub enum Progress {
     Stepped,
     Fault(Stop),
 }
 
 // The special registers after an instruction, and what it comes to.
-#[derive(Drop)]
+#[derive(Clone, Copy)]
 pub struct Applied {
     pub ip: u16,
     pub rp: u16,

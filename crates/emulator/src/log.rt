@@ -7,14 +7,14 @@ ghost use Rattle.emulator.specs.Parts.{reads_of, reads_log, room_of, appended};
 use crate::effects::Reply;
 
 // What a read is made for.
-#[derive(Drop)]
+#[derive(Clone, Copy)]
 pub enum Purpose {
     Fetch,
     Read,
 }
 
 // The reads of a cycle: none where its fetch stops, else the word fetched, and the word loaded, with its address, if one is.
-#[derive(Drop)]
+#[derive(Clone, Copy)]
 pub enum Reads {
     None,
     Fetch(u16),

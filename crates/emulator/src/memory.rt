@@ -5,14 +5,14 @@ ghost use Rattle.emulator.specs.Memory.{refused_length, read_mark, write_mark, l
 use crate::stop::Stop;
 
 // What a read finds.
-#[derive(Drop)]
+#[derive(Clone, Copy)]
 pub enum Read {
     Word(u16),
     Stopped(Stop),
 }
 
 // What a write comes to.
-#[derive(Drop)]
+#[derive(Clone, Copy)]
 pub enum Write {
     Done,
     Stopped(Stop),

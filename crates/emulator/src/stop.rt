@@ -3,7 +3,7 @@ ghost use Rattle.core.specs.Prelude.{◌≡◌};
 ghost use Rattle.emulator.specs.Outcome.{stop_of, fault};
 
 // A stop, with the value that is returned too.
-#[derive(Drop)]
+#[derive(Clone, Copy)]
 pub enum Stop {
     // The word.
     Undecodable(u16),
@@ -18,7 +18,7 @@ pub enum Stop {
 }
 
 // A stop by its number.
-#[derive(Drop)]
+#[derive(Clone, Copy)]
 pub struct Fault {
     pub number: u8,
     pub value: u16,

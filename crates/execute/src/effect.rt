@@ -6,7 +6,7 @@ ghost use Rattle.execute.specs.Registers.{registers, gpr_of, spr_of};
 use crate::{flags, word};
 use instructions::{GPR, Instruction, SPR};
 
-#[derive(Drop)]
+#[derive(Clone, Copy)]
 pub enum Effect {
     None,
     // The word goes to a general register.

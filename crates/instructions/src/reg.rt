@@ -3,7 +3,7 @@ ghost use Rattle.std.specs.Prelude.{◌≡◌};
 ghost use Rattle.instructions.specs.Bounded.{Bounded};
 ghost use Rattle.instructions.specs.Reg.{gpr_number, gpr_at, gpr_decode_of, spr_number, spr_at, spr_decode_of, dr_number, dr_at, dr_decode_of};
 
-#[derive(Drop)]
+#[derive(Clone, Copy)]
 pub enum GeneralPurposeRegister {
     R0,
     R1,
@@ -18,13 +18,13 @@ pub enum GeneralPurposeRegister {
 pub type GPR = GeneralPurposeRegister;
 
 // What a general register's number stands for.
-#[derive(Drop)]
+#[derive(Clone, Copy)]
 pub enum DecodedGPR {
     Register(GPR),
     Nothing,
 }
 
-#[derive(Drop)]
+#[derive(Clone, Copy)]
 pub enum SpecialPurposeRegister {
     IP,
     RP,
@@ -35,13 +35,13 @@ pub enum SpecialPurposeRegister {
 pub type SPR = SpecialPurposeRegister;
 
 // What a special register's number stands for.
-#[derive(Drop)]
+#[derive(Clone, Copy)]
 pub enum DecodedSPR {
     Register(SPR),
     Nothing,
 }
 
-#[derive(Drop)]
+#[derive(Clone, Copy)]
 pub enum DecimalRegister {
     D0,
     D1,
@@ -52,7 +52,7 @@ pub enum DecimalRegister {
 pub type DR = DecimalRegister;
 
 // What a decimal register's number stands for.
-#[derive(Drop)]
+#[derive(Clone, Copy)]
 pub enum DecodedDR {
     Register(DR),
     Nothing,

@@ -5,7 +5,7 @@ ghost use Rattle.std.specs.Prelude.{◌≡◌, min, max, length};
 ghost use Rattle.order.specs.Order.{word_in, place_of, by_words, order_of, earlier_of, part_of, slice_of, from_place, earlier_part};
 
 // Which comes first; equal lists differ in trailing zeros only.
-#[derive(Drop)]
+#[derive(Clone, Copy)]
 pub enum Order {
     First,
     Second,
@@ -14,7 +14,7 @@ pub enum Order {
 
 // What `earlier` hands back, in numbers: which list comes first, and the place in it from which on it is handed back. Where they are equal, that
 // is the end of the first.
-#[derive(Drop)]
+#[derive(Clone, Copy)]
 pub struct Part {
     pub order: Order,
     pub from: usize,

@@ -12,7 +12,7 @@ use execute::execute;
 use instructions::{Decoded, Instruction};
 
 // What a cycle comes to: the special registers with its progress, and the place in the log after it; or its reads aren't the log's.
-#[derive(Drop)]
+#[derive(Clone, Copy)]
 enum Turned {
     Cycled(Applied, usize),
     Mismatch,
@@ -85,7 +85,7 @@ fn mismatch(core: Core) -> Run
 }
 
 // Where the loop ended: what it comes to, and the place in the log.
-#[derive(Drop)]
+#[derive(Clone, Copy)]
 struct Ended {
     run: Run,
     at: usize,

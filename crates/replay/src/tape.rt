@@ -8,7 +8,7 @@ use emulator::{Purpose, Reply, Stop, address_word};
 use execute::Effect;
 
 // What a read finds.
-#[derive(Drop)]
+#[derive(Clone, Copy)]
 pub enum Found {
     Word(u16),
     Stopped(Stop),
@@ -16,7 +16,7 @@ pub enum Found {
 }
 
 // What an access comes to, and the place in the log after it.
-#[derive(Drop)]
+#[derive(Clone, Copy)]
 pub enum Recorded {
     Reply(Reply, usize),
     Mismatch,

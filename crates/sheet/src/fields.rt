@@ -5,7 +5,7 @@ ghost use Rattle.sheet.specs.Record.{record_of, register_of, with_register};
 use emulator::Core;
 use instructions::{GPR, SPR};
 
-#[derive(Drop)]
+#[derive(Clone, Copy)]
 pub enum Record {
     Place(u16),
     Word(u16),

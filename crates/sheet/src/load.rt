@@ -7,13 +7,13 @@ use crate::memory::{clear, copy, put};
 use emulator::{Core, refuses_length};
 
 // What a load comes to: done, or refused with the number of the test that failed.
-#[derive(Drop)]
+#[derive(Clone, Copy)]
 pub enum Loaded {
     Done,
     Refused(u8),
 }
 
-#[derive(Drop)]
+#[derive(Clone, Copy)]
 pub struct Load {
     pub core: Core,
     pub answer: Loaded,

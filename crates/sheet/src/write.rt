@@ -8,7 +8,7 @@ use crate::fields::register;
 use emulator::{Core, refuses_length};
 
 // What a write comes to: the number of records written, or refused with the number of the test that failed.
-#[derive(Drop)]
+#[derive(Clone, Copy)]
 pub enum Written {
     Records(usize),
     Refused(u8),

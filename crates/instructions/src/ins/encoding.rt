@@ -9,7 +9,7 @@ use crate::reg::{DR, GPR, SPR};
 use opcode::InstructionOpcode;
 
 // What decoding a word answers.
-#[derive(Drop)]
+#[derive(Clone, Copy)]
 pub enum Decoded {
     Ins(Instruction),
     Undecodable(u16),

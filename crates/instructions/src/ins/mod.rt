@@ -3,7 +3,7 @@ use crate::reg::{DR, GPR, SPR};
 
 pub mod encoding;
 
-#[derive(Drop)]
+#[derive(Clone, Copy)]
 pub enum Instruction {
     // Core
     Nop,
