@@ -1,5 +1,5 @@
 -- Laws of an access and of a cycle: one for each way through the code.
-use Rattle.core.specs.Prelude.{◌≡◌, ℕ, List, [], ◌∷◌, ◌++◌}
+use Rattle.std.specs.Prelude.{◌≡◌, ℕ, List, [], ◌∷◌, ◌++◌}
 use mathlib.Core.Path.{refl, ap}
 use denote.Enum.Declared.{tag_of}
 use types.Run.{OneOf, miss}

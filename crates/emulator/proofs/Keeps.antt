@@ -1,13 +1,13 @@
 -- What every access leads to, a cycle and a run lead to: a relation of the log and memory, or what stands in its place, before and after. So
 -- marks only grow and the lengths never change.
-use Rattle.core.specs.Prelude.{◌≡◌, ℕ, zero, suc, ◌+◌, eqb, ltb, List, [], ◌++◌, length}
+use Rattle.std.specs.Prelude.{◌≡◌, ℕ, zero, suc, ◌+◌, eqb, ltb, List, [], ◌++◌, length}
 use mathlib.Core.List.{append-nil, append_assoc}
 use mathlib.Core.Path.{refl, ◌∙◌}
 use Rattle.emulator.specs.Core.{is_halted}
 use Rattle.emulator.specs.Log.{read_log, reply_log, Logged, is_full}
 use Rattle.emulator.specs.Memory.{Memory, Accessed, read_of, write_of, Kept}
 use Rattle.emulator.specs.Machine.{Access, none, load, store, stop, Plan, Store, memory_store, read_reply, write_reply, make_of, Turn, carry_out, on_fetch, advanced, cycle_of, refusal_of, step_of, Ran, is_stepped, next_of, Setting, run_from}
-use Rattle.emulator.specs.declared.core.Core.{Core}
+use Rattle.emulator.specs.declared.core_record.Core.{Core}
 use Rattle.emulator.specs.declared.log.Purpose.{Purpose}
 use Rattle.emulator.specs.declared.memory.Read.{Read}
 use Rattle.emulator.specs.declared.memory.Write.{Write}

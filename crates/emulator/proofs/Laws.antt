@@ -1,6 +1,6 @@
 -- Laws of the definitions of the registers, a stop, an access, a cycle and the host tests, one for each way through the code: the premises are what the way's
 -- tests and callees tell, so that `search` with the law proves the way's `returns`.
-use Rattle.core.specs.Prelude.{◌≡◌, ℕ, ◌<◌, ◌≤◌, Bool, true, false, eqb, ltb, List, length, get_or, set}
+use Rattle.std.specs.Prelude.{◌≡◌, ℕ, ◌<◌, ◌≤◌, Bool, true, false, eqb, ltb, List, length, get_or, set}
 use mathlib.Core.Path.{sym, ◌∙◌}
 use native.Mathlib.Omega.{arith}
 use borrow.Author.Tests.{lt-ltb, le-ltb, ltb-false, eqb-true, eq-eqb, ne_eqb}
@@ -21,7 +21,7 @@ use Rattle.emulator.specs.Machine.{after_of, access_of, Settled, settled, settle
 use Rattle.emulator.specs.declared.effects.Applied.{Applied}
 use Rattle.emulator.specs.declared.effects.Progress.{Progress}
 use Rattle.emulator.specs.declared.effects.Reply.{Reply}
-use Rattle.emulator.specs.declared.core.Core.{Core}
+use Rattle.emulator.specs.declared.core_record.Core.{Core}
 use Rattle.emulator.specs.declared.memory.Read.{Read}
 use Rattle.emulator.specs.declared.memory.Write.{Write}
 use Rattle.emulator.specs.declared.stop.Stop.{Stop}

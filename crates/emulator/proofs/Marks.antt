@@ -1,5 +1,5 @@
 -- What a read and a write do to marks.
-use Rattle.core.specs.Prelude.{◌≡◌, ℕ, ◌+◌, ◌/◌, ◌%◌, eqb, ltb, ◌≢◌, ◌⊎◌, List, length, get_or, set}
+use Rattle.std.specs.Prelude.{◌≡◌, ℕ, ◌+◌, ◌/◌, ◌%◌, eqb, ltb, ◌≢◌, ◌⊎◌, List, length, get_or, set}
 use mathlib.Core.Path.{refl, ap, ◌∙◌}
 use mathlib.Core.Logic.{⊎_elim, inl, inr}
 use native.Mathlib.Omega.{arith}

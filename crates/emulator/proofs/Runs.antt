@@ -1,6 +1,6 @@
 -- Laws of the run and of the step: one for each way through the loop of turns and through `step`, `run` and `run_logged`, the loop's
 -- invariant, and that a step is a run of one.
-use Rattle.core.specs.Prelude.{◌≡◌, ℕ, zero, suc, ◌+◌, ◌-◌, ◌<◌, ◌≤◌, Bool, true, false, List, [], ◌++◌, length, replicate}
+use Rattle.std.specs.Prelude.{◌≡◌, ℕ, zero, suc, ◌+◌, ◌-◌, ◌<◌, ◌≤◌, Bool, true, false, List, [], ◌++◌, length, replicate}
 use mathlib.Core.Path.{refl, sym, ap, ◌∙◌}
 use native.Mathlib.Omega.{arith}
 use lib.ListN.{length-replicate}
@@ -15,8 +15,8 @@ use Rattle.emulator.specs.Outcome.{Outcome, stepped, halted, limit, fault, refus
 use Rattle.emulator.specs.Machine.{Access, none, load, store, stop, Plan, plan_of, settle_of, Store, memory_store, Turn, turn, on_fetch, advanced, carry_out, cycle_of, refusal_of, unmarked, step_of, Ran, ran, next_of, Setting, setting, plain, logging_in, run_from, RanLogged, ran_logged, in_buffer, run_in, run_of, run_logged_of}
 use Rattle.emulator.specs.declared.effects.Progress.{Progress}
 use Rattle.emulator.specs.declared.effects.Reply.{Reply}
-use Rattle.emulator.specs.declared.core.Answer.{Answer}
-use Rattle.emulator.specs.declared.core.Core.{Core}
+use Rattle.emulator.specs.declared.core_record.Answer.{Answer}
+use Rattle.emulator.specs.declared.core_record.Core.{Core}
 use Rattle.emulator.specs.declared.cycle.End.{End}
 use Rattle.emulator.specs.declared.log.Reads.{Reads}
 use Rattle.emulator.specs.declared.memory.Read.{Read}

@@ -1,5 +1,5 @@
 -- Runs of stores, `sets`: what is left of a run is the whole run, so that a loop which stores keeps `sets now i rest ≡ sets first 0 whole`.
-use Rattle.core.specs.Prelude.{◌≡◌, ℕ, zero, suc, ◌+◌, ◌-◌, ◌<◌, ◌≤◌, List, [], ◌∷◌, ◌++◌, length, get_or, drop, set, replicate}
+use Rattle.std.specs.Prelude.{◌≡◌, ℕ, zero, suc, ◌+◌, ◌-◌, ◌<◌, ◌≤◌, List, [], ◌∷◌, ◌++◌, length, get_or, drop, set, replicate}
 use mathlib.Core.Path.{◌∙◌}
 use native.Mathlib.Numerals.{add-one, add-two, add-three, add-four}
 use native.Mathlib.Nat.{add-zero, zero-add, suc-add, add-suc}

@@ -1,12 +1,12 @@
 -- The core record (document 01, Records).
-use Rattle.core.specs.Prelude.{ℕ, Bool, List, replicate, slice_set}
+use Rattle.std.specs.Prelude.{ℕ, Bool, List, replicate, slice_set}
 use Rattle.instructions.specs.declared.reg.GeneralPurposeRegister.{GeneralPurposeRegister}
 use Rattle.instructions.specs.declared.reg.SpecialPurposeRegister.{SpecialPurposeRegister}
 use Rattle.instructions.specs.declared.reg.SpecialPurposeRegister.TheVariants.{IP, RP, SP, EF}
 use Rattle.instructions.specs.Reg.{gpr_number}
 use Rattle.execute.specs.Flags.{halt_of, cond_of, with_cond}
 use Rattle.execute.specs.Registers.{gpr_of, spr_of}
-use Rattle.emulator.specs.declared.core.Core.{Core}
+use Rattle.emulator.specs.declared.core_record.Core.{Core}
 
 -- a core of its registers: r0 to r7 as a list, then ip, rp, sp, ef
 abbrev pub core_of : List ℕ → ℕ → ℕ → ℕ → ℕ → Core

@@ -1,6 +1,6 @@
 -- One step and the run (document 01), with its log (document 02, CR 2). What an instruction does, what an access does and what a run does
 -- stand apart: an access and a run see an instruction only through its plan.
-use Rattle.core.specs.Prelude.{ℕ, zero, suc, ◌+◌, Bool, true, false, List, [], ◌++◌, length, replicate, ◌==◌, nat_eq}
+use Rattle.std.specs.Prelude.{ℕ, zero, suc, ◌+◌, Bool, true, false, List, [], ◌++◌, length, replicate, ◌==◌, nat_eq}
 use Rattle.instructions.specs.Choice.{if◌then◌else◌}
 use Rattle.instructions.specs.Decoding.{decode_of}
 use Rattle.instructions.specs.declared.ins.encoding.Decoded.{Decoded}
@@ -16,7 +16,7 @@ use Rattle.emulator.specs.Log.{read_log, reply_log, Logged, logged, Room, words,
 use Rattle.emulator.specs.Memory.{Memory, lent, refused_length, Accessed, accessed, read_of, write_of}
 use Rattle.emulator.specs.Outcome.{Outcome, stepped, halted, limit, fault, refused, ended, stop_of}
 use Rattle.emulator.specs.declared.effects.Reply.{Reply}
-use Rattle.emulator.specs.declared.core.Core.{Core}
+use Rattle.emulator.specs.declared.core_record.Core.{Core}
 use Rattle.emulator.specs.declared.log.Purpose.{Purpose}
 use Rattle.emulator.specs.declared.memory.Read.{Read}
 use Rattle.emulator.specs.declared.memory.Write.{Write}

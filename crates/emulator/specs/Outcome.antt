@@ -1,5 +1,5 @@
 -- How a step and a run come out, by document 01's numbers (The run; Stops), and what each answer of the code says of it.
-use Rattle.core.specs.Prelude.{ℕ, ◌==◌}
+use Rattle.std.specs.Prelude.{ℕ, ◌==◌}
 use Rattle.instructions.specs.Choice.{if◌then◌else◌}
 use Rattle.instructions.specs.Decoding.{undecodable}
 use Rattle.emulator.specs.declared.stop.Stop.{Stop}
@@ -8,8 +8,8 @@ use Rattle.emulator.specs.declared.effects.Progress.{Progress}
 use Rattle.emulator.specs.declared.effects.Progress.TheVariants as progress
 use Rattle.emulator.specs.declared.cycle.End.{End}
 use Rattle.emulator.specs.declared.cycle.End.TheVariants as ends
-use Rattle.emulator.specs.declared.core.Answer.{Answer}
-use Rattle.emulator.specs.declared.core.Answer.TheVariants as answers
+use Rattle.emulator.specs.declared.core_record.Answer.{Answer}
+use Rattle.emulator.specs.declared.core_record.Answer.TheVariants as answers
 
 -- `fault` has the stop's number and the value in brackets, `refused` the number of the host test, `ended` that of an end by the log
 -- (document 02, CR 2): 30, fewer than four log words are free, or 31, a replay's reads aren't the log's

@@ -1,5 +1,5 @@
 -- What the parts of the loop promise about the log. Nothing here says what a log is: the parts' promises are proved to come to the run's.
-use Rattle.core.specs.Prelude.{ℕ, ◌+◌, Bool, true, false, List, [], ◌++◌, length}
+use Rattle.std.specs.Prelude.{ℕ, ◌+◌, Bool, true, false, List, [], ◌++◌, length}
 use Rattle.std.proofs.lemmas.List.Edits.{sets}
 use Rattle.emulator.specs.Log.{entry_of, Room, none, words, Written, written}
 use Rattle.emulator.specs.declared.effects.Reply.{Reply}

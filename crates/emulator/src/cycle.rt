@@ -1,6 +1,6 @@
 // One cycle and the loop of cycles. The loop takes the core apart once: its calls are lent the eight general registers as an array and
 // get the others by value, since a whole core by value is copied at each call.
-ghost use Rattle.core.specs.Prelude.{◌≡◌, [], length};
+ghost use Rattle.std.specs.Prelude.{◌≡◌, [], length};
 ghost use Rattle.emulator.specs.Core.{core_of};
 ghost use Rattle.emulator.specs.Log.{reply_log, logged, written};
 ghost use Rattle.emulator.specs.Parts.{reads_log, room_of};
@@ -8,7 +8,7 @@ ghost use Rattle.emulator.specs.Memory.{lent, accessed};
 ghost use Rattle.emulator.specs.Outcome.{progress_of, end_of};
 ghost use Rattle.emulator.specs.Machine.{access_of, plan_of, memory_store, make_of, turn, carry_out, cycle_of, ran, ran_logged, in_buffer, setting, run_from};
 
-use crate::core::Core;
+use crate::core_record::Core;
 use crate::effects::{Applied, Progress, Reply, apply, faulted};
 use crate::log::{Reads, is_full, log_reads, reads_of};
 use crate::memory::{Read, Write, fetch_word, read_word, write_word};

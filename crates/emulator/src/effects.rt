@@ -1,5 +1,5 @@
 // What an instruction makes of the registers, once the access that it leaves to be made is replied to.
-ghost use Rattle.core.specs.Prelude.{◌≡◌};
+ghost use Rattle.std.specs.Prelude.{◌≡◌};
 ghost use Rattle.emulator.specs.Core.{core_of};
 ghost use Rattle.emulator.specs.Outcome.{progress_of};
 ghost use Rattle.emulator.specs.Machine.{after_of, access_of, settled, settle_of};

@@ -1,10 +1,10 @@
 // The step on a core that is lent for writing.
-ghost use Rattle.core.specs.Prelude.{◌≡◌};
+ghost use Rattle.std.specs.Prelude.{◌≡◌};
 ghost use Rattle.emulator.specs.Outcome.{answer_of};
 ghost use Rattle.emulator.specs.Memory.{lent};
 ghost use Rattle.emulator.specs.Machine.{plan_of, turn, step_of};
 
-use crate::core::{Answer, Core, Step};
+use crate::core_record::{Answer, Core, Step};
 
 // One step of the core, which is changed where it stands.
 pub fn step_lent(core: &mut Core, memory: &mut [u16], marks: &mut [u8]) -> Answer

@@ -1,7 +1,7 @@
 // The emulator: the core record, memory with marks, one step, and the run.
 #![tactic(auto)]
 
-mod core;
+mod core_record;
 mod cycle;
 mod effects;
 mod lent;
@@ -9,7 +9,7 @@ mod log;
 mod memory;
 mod stop;
 
-pub use core::{Answer, Core, Run, Step};
+pub use core_record::{Answer, Core, Run, Step};
 pub use cycle::{End, LoggedRun};
 pub use effects::{Applied, Progress, Reply, apply, faulted};
 pub use lent::{step_by_lent, step_lent};

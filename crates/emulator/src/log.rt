@@ -1,5 +1,5 @@
 // The log of a run's reads: two words for each.
-ghost use Rattle.core.specs.Prelude.{◌≡◌, ◌+◌, ◌≤◌, true, length};
+ghost use Rattle.std.specs.Prelude.{◌≡◌, ◌+◌, ◌≤◌, true, length};
 ghost use Rattle.std.proofs.lemmas.List.Edits.{sets};
 ghost use Rattle.emulator.specs.Log.{address_word, entry_of, is_full, written};
 ghost use Rattle.emulator.specs.Parts.{reads_of, reads_log, room_of, appended};

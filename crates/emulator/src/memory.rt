@@ -1,5 +1,5 @@
 // Access to lent memory, with marks.
-ghost use Rattle.core.specs.Prelude.{◌≡◌, length, replicate};
+ghost use Rattle.std.specs.Prelude.{◌≡◌, length, replicate};
 ghost use Rattle.emulator.specs.Memory.{refused_length, read_mark, write_mark, lent, accessed, read_of, write_of};
 
 use crate::stop::Stop;

@@ -1,5 +1,5 @@
 // Why a step stops.
-ghost use Rattle.core.specs.Prelude.{◌≡◌};
+ghost use Rattle.std.specs.Prelude.{◌≡◌};
 ghost use Rattle.emulator.specs.Outcome.{stop_of, fault};
 
 // A stop, with the value that is returned too.

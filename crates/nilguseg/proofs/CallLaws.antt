@@ -1,8 +1,8 @@
 -- What the parts of a call come to together: the core of the words, the call of the machine, the words of its core, and the answer's
 -- number.
 -- Assumes nothing.
-use Rattle.core.specs.Prelude.{◌≡◌, ℕ, ◌+◌, ◌*◌, ◌^◌, List, [], ◌∷◌}
-use Rattle.emulator.specs.declared.core.Core.{Core}
+use Rattle.std.specs.Prelude.{◌≡◌, ℕ, ◌+◌, ◌*◌, ◌^◌, List, [], ◌∷◌}
+use Rattle.emulator.specs.declared.core_record.Core.{Core}
 use Rattle.emulator.specs.Memory.{lent}
 use Rattle.emulator.specs.Machine.{plan_of, turn, step_of, ran, run_of}
 use Rattle.emulator.specs.Outcome as machine

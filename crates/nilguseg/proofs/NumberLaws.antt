@@ -1,7 +1,7 @@
 -- What the tests of an answer and the numbers of its parts come to together.
 -- Assumes nothing.
-use Rattle.core.specs.Prelude.{◌≡◌, ℕ, ◌*◌, ◌^◌}
-use Rattle.emulator.specs.declared.core.Answer.{Answer}
+use Rattle.std.specs.Prelude.{◌≡◌, ℕ, ◌*◌, ◌^◌}
+use Rattle.emulator.specs.declared.core_record.Answer.{Answer}
 use Rattle.emulator.specs.declared.cycle.End.{End}
 use Rattle.emulator.specs.declared.stop.Stop.{Stop}
 use Rattle.emulator.specs.Outcome.{fault, stop_of, answer_of, end_of}

@@ -1,7 +1,7 @@
 -- What a host sees of a call: a number, and lists of numbers that it lent (document 01, Stops and Records, and
 -- document 02, CR 1, in the layout of the header).
-use Rattle.core.specs.Prelude.{ℕ, ◌+◌, ◌*◌, ◌^◌, List, [], ◌∷◌, ◌++◌, take, slice_index}
-use Rattle.emulator.specs.declared.core.Core.{Core}
+use Rattle.std.specs.Prelude.{ℕ, ◌+◌, ◌*◌, ◌^◌, List, [], ◌∷◌, ◌++◌, take, slice_index}
+use Rattle.emulator.specs.declared.core_record.Core.{Core}
 use Rattle.emulator.specs.Core.{core_of}
 use Rattle.emulator.specs.Memory.{Memory}
 use Rattle.emulator.specs.Machine.{Turn, Ran}

@@ -2,7 +2,7 @@
 // `Instruction::decode` must have no caller here but the cycle, or it is not inlined into the run: see `nilguseg_words`.
 #![tactic(auto)]
 
-ghost use Rattle.core.specs.Prelude.{◌≡◌, [], ◌∷◌};
+ghost use Rattle.std.specs.Prelude.{◌≡◌, [], ◌∷◌};
 ghost use Rattle.emulator.specs.Memory.{lent};
 ghost use Rattle.emulator.specs.Machine.{plan_of, step_of, run_of};
 ghost use Rattle.order.specs.Order.{order_of, part_of};
@@ -14,10 +14,10 @@ use crate::number::{loaded_number, order_number, step_number, written_number};
 use order::{compare, earlier_part};
 use sheet::{load_sheet, load_words, write_sheet};
 
-mod core;
+mod core_record;
 mod number;
 
-pub use core::{core_of, put_core};
+pub use core_record::{core_of, put_core};
 pub use number::end_number;
 
 // One step of the core.

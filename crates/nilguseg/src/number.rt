@@ -1,5 +1,5 @@
 // The numbers that a call answers.
-ghost use Rattle.core.specs.Prelude.{◌≡◌};
+ghost use Rattle.std.specs.Prelude.{◌≡◌};
 ghost use Rattle.emulator.specs.Outcome.{answer_of, end_of};
 ghost use Rattle.nilguseg.specs.Host.{answered, outcome_number, loaded_number, written_number, order_number};
 

@@ -6,7 +6,7 @@ use Rattle.emulator.specs.Log.{written}
 use Rattle.emulator.specs.Memory.{lent}
 use Rattle.emulator.specs.Machine.{plan_of, ran, ran_logged, run_logged_of}
 use Rattle.emulator.specs.Outcome as machine
-use Rattle.emulator.specs.declared.core.Core.{Core}
+use Rattle.emulator.specs.declared.core_record.Core.{Core}
 use Rattle.nilguseg.specs.Host.{core_from, words_of, outcome_number, call}
 use Rattle.nilguseg_log.specs.Host.{logged_call}
 

@@ -4,7 +4,7 @@ use mathlib.Core.List.{List, [], ◌∷◌}
 use mathlib.Core.Path.{◌≡◌}
 use Rattle.emulator.specs.Machine.{plan_of}
 use Rattle.emulator.specs.Outcome as machine
-use Rattle.emulator.specs.declared.core.Core.{Core}
+use Rattle.emulator.specs.declared.core_record.Core.{Core}
 use Rattle.nilguseg.specs.Host.{core_from, words_of, outcome_number, call}
 use Rattle.nilguseg_replay.specs.Host.{replay_call}
 use Rattle.replay.specs.Replay.{replayed, replay_of}

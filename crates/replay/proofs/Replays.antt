@@ -16,8 +16,8 @@ use Rattle.emulator.specs.Log.{Logged, logged, read_log}
 use Rattle.emulator.specs.Memory.{refused_length}
 use Rattle.emulator.specs.Outcome.{Outcome, progress_of, end_of, ended, refused}
 use Rattle.emulator.specs.Machine.{plan_of, Store, Turn, turn, cycle_of, Ran, ran, next_of, plain, run_from}
-use Rattle.emulator.specs.declared.core.Core.{Core}
-use Rattle.emulator.specs.declared.core.Run.{Run}
+use Rattle.emulator.specs.declared.core_record.Core.{Core}
+use Rattle.emulator.specs.declared.core_record.Run.{Run}
 use Rattle.emulator.specs.declared.cycle.End.{End}
 use Rattle.emulator.specs.declared.effects.Applied.{Applied}
 use Rattle.emulator.specs.declared.effects.Progress.{Progress}

@@ -7,8 +7,8 @@ use Rattle.emulator.specs.Log.{entry_of, reply_log, Logged}
 use Rattle.emulator.specs.Memory.{Accessed, accessed}
 use Rattle.emulator.specs.Outcome.{progress_of, end_of, ended}
 use Rattle.emulator.specs.Machine.{Turn, turn}
-use Rattle.emulator.specs.declared.core.Core.{Core}
-use Rattle.emulator.specs.declared.core.Run.{Run}
+use Rattle.emulator.specs.declared.core_record.Core.{Core}
+use Rattle.emulator.specs.declared.core_record.Run.{Run}
 use Rattle.emulator.specs.declared.effects.Reply.{Reply}
 use Rattle.emulator.specs.declared.log.Purpose.{Purpose}
 use Rattle.emulator.specs.declared.stop.Stop.TheVariants.{OutOfRange}

@@ -5,7 +5,7 @@ use Rattle.emulator.specs.Log.{Logged}
 use Rattle.emulator.specs.Memory.{refused_length, Accessed, accessed}
 use Rattle.emulator.specs.Outcome.{Outcome, refused, ended}
 use Rattle.emulator.specs.Machine.{Plan, Store, Ran, plain, run_from}
-use Rattle.emulator.specs.declared.core.Core.{Core}
+use Rattle.emulator.specs.declared.core_record.Core.{Core}
 use Rattle.emulator.specs.declared.memory.Read.{Read}
 use Rattle.emulator.specs.declared.memory.Write.{Write}
 use Rattle.emulator.specs.declared.stop.Stop.TheVariants.{OutOfRange}

@@ -5,7 +5,7 @@ use Rattle.execute_laws.specs.Words.{IsWord, RegistersFit}
 use Rattle.emulator.specs.Log.{Logged}
 use Rattle.emulator.specs.Memory.{Memory}
 use Rattle.emulator.specs.Machine.{plan_of, Ran, Setting, refusal_of, run_in}
-use Rattle.emulator.specs.declared.core.Core.{Core}
+use Rattle.emulator.specs.declared.core_record.Core.{Core}
 use Rattle.replay.specs.Replay.{Replayed, replayed, replay_of}
 use Rattle.run_laws.specs.Agreement.{HasRoom}
 

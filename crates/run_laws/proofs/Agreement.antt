@@ -14,7 +14,7 @@ use Rattle.run_laws.specs.Agreement.{word_at, mark_at, AgreeLogged, equal_room, 
 use Rattle.emulator.specs.Log.{Logged, logged}
 use Rattle.emulator.specs.Memory.{Memory, lent, was_read, was_written, read_mark, write_mark, mark_read, mark_write, Accessed, read_of, write_of, Below}
 use Rattle.emulator.specs.Machine.{Plan, plan_of, Access, none, load, store, stop, advanced, memory_store, refusal_of, unmarked, Ran, ran, Setting, plain, run_from, run_in, run_of}
-use Rattle.emulator.specs.declared.core.Core.{Core}
+use Rattle.emulator.specs.declared.core_record.Core.{Core}
 use Rattle.emulator.specs.declared.memory.Read.{Read}
 use Rattle.emulator.specs.declared.memory.Write.{Write}
 use Rattle.emulator.proofs.Fill.{get_d_zeros}

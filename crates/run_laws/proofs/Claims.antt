@@ -8,7 +8,7 @@ use Rattle.emulator.specs.Core.{is_halted}
 use Rattle.emulator.specs.Log.{Logged}
 use Rattle.emulator.specs.Memory.{Memory, Kept}
 use Rattle.emulator.specs.Machine.{Plan, plan_of, memory_store, Turn, cycle_of, refusal_of, unmarked, step_of, Ran, is_stepped, next_of, plain, run_from, run_of}
-use Rattle.emulator.specs.declared.core.Core.{Core}
+use Rattle.emulator.specs.declared.core_record.Core.{Core}
 use Rattle.instructions.proofs.Cases.{by_test}
 use Rattle.emulator.proofs.Keeps.{kept_leads, cycle_keeps, step_keeps, run_leads}
 use Rattle.emulator.proofs.Runs.{accepted_run}

@@ -14,7 +14,7 @@ use Rattle.emulator.specs.Log.{entry_of, read_log, reply_log, Logged, logged, wo
 use Rattle.emulator.specs.Memory.{Memory}
 use Rattle.emulator.specs.Outcome.{Outcome, stepped, fault, ended, stop_of}
 use Rattle.emulator.specs.Machine.{Access, none, load, store, stop, Plan, plan_of, memory_store, read_reply, write_reply, settle_of, make_of, Turn, turn, carry_out, on_fetch, advanced, cycle_of, refusal_of, unmarked, Ran, is_stepped, next_of, Setting, setting, plain, run_from, run_in, run_of}
-use Rattle.emulator.specs.declared.core.Core.{Core}
+use Rattle.emulator.specs.declared.core_record.Core.{Core}
 use Rattle.emulator.specs.declared.log.Purpose.{Purpose}
 use Rattle.emulator.specs.declared.memory.Read.{Read}
 use Rattle.emulator.specs.declared.memory.Write.{Write}

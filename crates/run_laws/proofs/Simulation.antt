@@ -12,7 +12,7 @@ use Rattle.emulator.specs.Memory.{Accessed, accessed}
 use Rattle.emulator.specs.Outcome.{Outcome}
 use Rattle.emulator.specs.Machine.{Access, none, load, store, stop, Plan, loaded, settle_of, Store, read_reply, write_reply, make_of, Turn, turn, settled_turn, carry_out, after_fetch, advanced, cycle_of, Ran, ran, is_stepped, next_of, Setting, run_from}
 use Rattle.emulator.specs.declared.effects.Reply.{Reply}
-use Rattle.emulator.specs.declared.core.Core.{Core}
+use Rattle.emulator.specs.declared.core_record.Core.{Core}
 use Rattle.emulator.specs.declared.log.Purpose.{Purpose}
 use Rattle.emulator.specs.declared.memory.Read.{Read}
 use Rattle.emulator.specs.declared.memory.Write.{Write}

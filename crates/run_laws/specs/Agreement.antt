@@ -5,7 +5,7 @@ use Rattle.emulator.specs.Log.{Logged}
 use Rattle.emulator.specs.Memory.{Memory, was_read, was_written}
 use Rattle.emulator.specs.Outcome.{ended}
 use Rattle.emulator.specs.Machine.{Plan, plan_of, Ran, Setting, refusal_of, run_in, run_of}
-use Rattle.emulator.specs.declared.core.Core.{Core}
+use Rattle.emulator.specs.declared.core_record.Core.{Core}
 
 -- the word, and the mark, at an address
 abbrev pub word_at : Memory → ℕ → ℕ

@@ -5,7 +5,7 @@ use Rattle.emulator.specs.Core.{is_halted}
 use Rattle.emulator.specs.Memory.{Memory, Kept}
 use Rattle.emulator.specs.Outcome.{stepped, halted, limit}
 use Rattle.emulator.specs.Machine.{plan_of, refusal_of, Turn, step_of, unmarked, Ran, ran, is_stepped, run_of}
-use Rattle.emulator.specs.declared.core.Core.{Core}
+use Rattle.emulator.specs.declared.core_record.Core.{Core}
 
 -- marks only grow, their other bits keep their value, and the lengths never change
 pub record Keeping : Type 0 where

@@ -4,7 +4,7 @@ use Rattle.emulator.specs.Log.{entry_of, Logged}
 use Rattle.emulator.specs.Memory.{Memory}
 use Rattle.emulator.specs.Outcome as outcome
 use Rattle.emulator.specs.Machine.{plan_of, memory_store, cycle_of, Ran, ran, Setting, plain, logging_in, run_in, run_of}
-use Rattle.emulator.specs.declared.core.Core.{Core}
+use Rattle.emulator.specs.declared.core_record.Core.{Core}
 use Rattle.emulator.specs.declared.log.Purpose.{Purpose}
 use Rattle.run_laws.specs.Agreement.{HasRoom}
 

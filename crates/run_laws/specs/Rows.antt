@@ -12,7 +12,7 @@ use Rattle.emulator.specs.Core.{core_of, new_core}
 use Rattle.emulator.specs.Memory.{Memory, lent}
 use Rattle.emulator.specs.Outcome.{Outcome, stepped, halted, limit, fault}
 use Rattle.emulator.specs.Machine.{plan_of, Turn, step_of, Ran, run_of}
-use Rattle.emulator.specs.declared.core.Core.{Core}
+use Rattle.emulator.specs.declared.core_record.Core.{Core}
 
 -- what a row shows: a word, what a word decodes to, a step's outcome and core, or a run's end, steps, core and marks
 pub data Seen : Type 0 where

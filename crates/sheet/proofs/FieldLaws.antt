@@ -6,7 +6,7 @@ use borrow.Author.Tests.{lt-ltb, le-ltb, ne_eqb}
 use Rattle.instructions.specs.declared.reg.GeneralPurposeRegister.{GeneralPurposeRegister}
 use Rattle.instructions.specs.declared.reg.SpecialPurposeRegister.{SpecialPurposeRegister}
 use Rattle.instructions.specs.Reg.{gpr_at, spr_at}
-use Rattle.emulator.specs.declared.core.Core.{Core}
+use Rattle.emulator.specs.declared.core_record.Core.{Core}
 use Rattle.emulator.specs.Core.{read_gpr, write_gpr, read_spr, write_spr}
 use Rattle.sheet.specs.declared.fields.Record.TheVariants.{Place, Word, Preset, End, Refused}
 use Rattle.sheet.specs.Record.{kind, above16, above20, register, low, count, record_of, register_of, with_register}

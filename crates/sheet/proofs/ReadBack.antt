@@ -10,7 +10,7 @@ use borrow.Author.Tests.{lt-ltb, eq-eqb, eqb-true, eqb-false}
 use Rattle.instructions.specs.Reg.{gpr_number, gpr_at, spr_at}
 use Rattle.instructions.specs.declared.reg.SpecialPurposeRegister.{SpecialPurposeRegister}
 use Rattle.instructions.specs.declared.reg.SpecialPurposeRegister.TheVariants.{IP, RP, SP, EF}
-use Rattle.emulator.specs.declared.core.Core.{Core}
+use Rattle.emulator.specs.declared.core_record.Core.{Core}
 use Rattle.emulator.specs.Core.{new_core, read_spr}
 use Rattle.instructions.proofs.Cases.{by_test, if_elim}
 use Rattle.sheet.specs.declared.fields.Record.TheVariants.{Place, Word, Preset, End}

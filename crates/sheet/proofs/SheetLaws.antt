@@ -10,7 +10,7 @@ use lib.Seq.{drop-cons}
 use lib.Dec.{ltb, eqb}
 use borrow.Author.Tests.{lt-ltb, le-ltb, ltb-true, eq-eqb, ne_eqb}
 use Rattle.instructions.specs.Choice.{if◌then◌else◌}
-use Rattle.emulator.specs.declared.core.Core.{Core}
+use Rattle.emulator.specs.declared.core_record.Core.{Core}
 use Rattle.emulator.specs.Core.{new_core}
 use Rattle.emulator.specs.Memory.{refused_length}
 use Rattle.sheet.specs.declared.load.Loaded.{Loaded}

@@ -12,7 +12,7 @@ use lib.Dec.{eqb}
 use borrow.Author.Tests.{lt-ltb, le-ltb, eq-eqb, ne_eqb}
 use Rattle.instructions.specs.Bounded.{Bounded}
 use Rattle.instructions.specs.Choice.{if◌then◌else◌}
-use Rattle.emulator.specs.declared.core.Core.{Core}
+use Rattle.emulator.specs.declared.core_record.Core.{Core}
 use Rattle.emulator.specs.Memory.{refused_length}
 use Rattle.sheet.specs.declared.write.Written.{Written}
 use Rattle.sheet.specs.Record.{register_of}

@@ -2,7 +2,7 @@
 use Rattle.std.specs.Prelude.{ℕ, ◌-◌, ◌/◌, ◌%◌, ◌^◌, ltb, eqb}
 use Rattle.instructions.specs.Choice.{if◌then◌else◌}
 use Rattle.instructions.specs.Reg.{gpr_at, spr_at}
-use Rattle.emulator.specs.declared.core.Core.{Core}
+use Rattle.emulator.specs.declared.core_record.Core.{Core}
 use Rattle.emulator.specs.Core.{read_gpr, write_gpr, read_spr, write_spr}
 use Rattle.sheet.specs.declared.fields.Record.{Record}
 use Rattle.sheet.specs.declared.fields.Record.TheVariants.{Place, Word, Preset, End, Refused}

@@ -2,8 +2,8 @@
 -- Assumes nothing.
 use Rattle.nilguseg.proofs.CoreLaws.{core_put}
 use borrow.Author.Rules.{rules}
-use Rattle.nilguseg.proofs.core.put_core.Statement.{statement}
-use Rattle.nilguseg.proofs.core.put_core.Tie as tie
+use Rattle.nilguseg.proofs.core_record.put_core.Statement.{statement}
+use Rattle.nilguseg.proofs.core_record.put_core.Tie as tie
 
 pub put_core_spec : {M : Type 1} → statement M
 put_core_spec =

@@ -1,8 +1,8 @@
--- `emulator::core::answered` meets its contract: a law for each way.
+-- `emulator::core_record::answered` meets its contract: a law for each way.
 use borrow.Author.Rules.{rules}
 use Rattle.emulator.proofs.Runs.{answered_stepped, answered_halted, answered_limit, answered_fault, answered_refused, answered_log}
-use Rattle.emulator.proofs.core.answered.Statement.{statement}
-use Rattle.emulator.proofs.core.answered.Tie as tie
+use Rattle.emulator.proofs.core_record.answered.Statement.{statement}
+use Rattle.emulator.proofs.core_record.answered.Tie as tie
 
 pub answered_spec : {M : Type 1} → statement M
 answered_spec =

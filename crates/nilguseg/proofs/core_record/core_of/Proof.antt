@@ -2,8 +2,8 @@
 -- Assumes nothing.
 use Rattle.nilguseg.proofs.CoreLaws.{core_taken}
 use borrow.Author.Rules.{rules}
-use Rattle.nilguseg.proofs.core.core_of.Statement.{statement}
-use Rattle.nilguseg.proofs.core.core_of.Tie as tie
+use Rattle.nilguseg.proofs.core_record.core_of.Statement.{statement}
+use Rattle.nilguseg.proofs.core_record.core_of.Tie as tie
 
 pub core_of_spec : {M : Type 1} → statement M
 core_of_spec =

@@ -1,5 +1,5 @@
 // The core record: its registers, one step, and the run.
-ghost use Rattle.core.specs.Prelude.{◌≡◌};
+ghost use Rattle.std.specs.Prelude.{◌≡◌};
 ghost use Rattle.emulator.specs.Core.{new_core, read_gpr, write_gpr, read_spr, write_spr, is_halted, is_cond_set, set_cond};
 ghost use Rattle.emulator.specs.Log.{written};
 ghost use Rattle.emulator.specs.Memory.{lent};

@@ -1,8 +1,8 @@
--- `emulator::core::Core::run` meets its contract: the host tests, and the turns from marks that are all 0.
+-- `emulator::core_record::Core::run` meets its contract: the host tests, and the turns from marks that are all 0.
 use Rattle.emulator.proofs.Runs.{run_refused, run_accepted, cleared_marked}
 use borrow.Author.Rules.{rules}
-use Rattle.emulator.proofs.core.Core.run.Statement.{statement}
-use Rattle.emulator.proofs.core.Core.run.Tie as tie
+use Rattle.emulator.proofs.core_record.Core.run.Statement.{statement}
+use Rattle.emulator.proofs.core_record.Core.run.Tie as tie
 
 pub run_spec : {M : Type 1} → statement M
 run_spec =
