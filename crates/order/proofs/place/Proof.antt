@@ -5,18 +5,18 @@ use Rattle.order.proofs.Laws.{Searching, searching_start, searching_next, place_
 use Rattle.order.proofs.place.Statement.{statement}
 use Rattle.order.proofs.place.Tie as tie
 
-abbrev invariant_loop : tie.invariant_loop
-invariant_loop first second end at₀ at = Searching first second end at
+abbrev invariant-loop-at : tie.invariant-loop-at
+invariant-loop-at first second end at₀ at = Searching first second end at
 
-abbrev decreases_loop : tie.decreases_loop
-decreases_loop first second end at₀ at = end - at
+abbrev decreases-loop-at : tie.decreases-loop-at
+decreases-loop-at first second end at₀ at = end - at
 
 pub place_spec : {M : Type 1} → statement M
 place_spec =
     tie.close
     (tie.spec
-    invariant_loop
-    decreases_loop
+    invariant-loop-at
+    decreases-loop-at
     (λ c κs. search rules)
     (λ c. search searching_start)
     (λ c κs. search rules)

@@ -7,18 +7,18 @@ use Rattle.replay.proofs.Replays.{Replaying, replaying_start, counts, replaying_
 use Rattle.replay.proofs.cycle.turns.Statement.{statement}
 use Rattle.replay.proofs.cycle.turns.Tie as tie
 
-abbrev invariant_loop : tie.invariant_loop
-invariant_loop core size limit log gprs₀ ip₀ rp₀ sp₀ ef₀ steps₀ at₀ gprs ip rp sp ef steps at = Replaying size log limit core (core_of gprs ip rp sp ef) steps at
+abbrev invariant-loop-core : tie.invariant-loop-core
+invariant-loop-core core size limit log gprs₀ ip₀ rp₀ sp₀ ef₀ steps₀ at₀ gprs ip rp sp ef steps at = Replaying size log limit core (core_of gprs ip rp sp ef) steps at
 
-abbrev decreases_loop : tie.decreases_loop
-decreases_loop core size limit log gprs₀ ip₀ rp₀ sp₀ ef₀ steps₀ at₀ gprs ip rp sp ef steps at = limit - steps
+abbrev decreases-loop-core : tie.decreases-loop-core
+decreases-loop-core core size limit log gprs₀ ip₀ rp₀ sp₀ ef₀ steps₀ at₀ gprs ip rp sp ef steps at = limit - steps
 
 pub turns_spec : {M : Type 1} → statement M
 turns_spec =
     tie.close
     (tie.spec
-    invariant_loop
-    decreases_loop
+    invariant-loop-core
+    decreases-loop-core
     (λ c. search replaying_start)
     (λ c κs. search rules)
     (λ c κs. search rules)

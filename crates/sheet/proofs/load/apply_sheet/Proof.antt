@@ -6,18 +6,18 @@ use Rattle.sheet.proofs.SheetLaws.{Applying, apply_start, apply_place, apply_in,
 use Rattle.sheet.proofs.load.apply_sheet.Statement.{statement}
 use Rattle.sheet.proofs.load.apply_sheet.Tie as tie
 
-abbrev invariant_loop : tie.invariant_loop
-invariant_loop sheet memory₀ core₀ address₀ i₀ memory core address i = Applying sheet (length memory₀) memory core address i
+abbrev invariant-loop-i : tie.invariant-loop-i
+invariant-loop-i sheet memory₀ core₀ address₀ i₀ memory core address i = Applying sheet (length memory₀) memory core address i
 
-abbrev decreases_loop : tie.decreases_loop
-decreases_loop sheet memory₀ core₀ address₀ i₀ memory core address i = length sheet - i
+abbrev decreases-loop-i : tie.decreases-loop-i
+decreases-loop-i sheet memory₀ core₀ address₀ i₀ memory core address i = length sheet - i
 
 pub apply_sheet_spec : {M : Type 1} → statement M
 apply_sheet_spec =
     tie.close
     (tie.spec
-    invariant_loop
-    decreases_loop
+    invariant-loop-i
+    decreases-loop-i
     (λ c κs. search rules)
     (λ c κs. search rules)
     (λ c. search apply_start)

@@ -6,18 +6,18 @@ use Rattle.sheet.proofs.SheetLaws.{Testing, test_start, test_none, test_place, t
 use Rattle.sheet.proofs.load.test_sheet.Statement.{statement}
 use Rattle.sheet.proofs.load.test_sheet.Tie as tie
 
-abbrev invariant_loop : tie.invariant_loop
-invariant_loop sheet size address₀ words₀ i₀ address words i = Testing sheet size address words i
+abbrev invariant-loop-i : tie.invariant-loop-i
+invariant-loop-i sheet size address₀ words₀ i₀ address words i = Testing sheet size address words i
 
-abbrev decreases_loop : tie.decreases_loop
-decreases_loop sheet size address₀ words₀ i₀ address words i = length sheet - i
+abbrev decreases-loop-i : tie.decreases-loop-i
+decreases-loop-i sheet size address₀ words₀ i₀ address words i = length sheet - i
 
 pub test_sheet_spec : {M : Type 1} → statement M
 test_sheet_spec =
     tie.close
     (tie.spec
-    invariant_loop
-    decreases_loop
+    invariant-loop-i
+    decreases-loop-i
     (λ c. search test_start)
     (λ c. search rules) (λ c. search rules) (λ c κs. search rules) (λ c. search rules) (λ c. search rules)
     (λ c. search rules) (λ c. search rules)

@@ -9,22 +9,22 @@ use Rattle.emulator.proofs.Stores.{sets_next, sets_done}
 use Rattle.sheet.proofs.memory.copy.Statement.{statement}
 use Rattle.sheet.proofs.memory.copy.Tie as tie
 
-abbrev invariant_loop : tie.invariant_loop
-invariant_loop words memory₀ i₀ memory i =
+abbrev invariant-loop-i : tie.invariant-loop-i
+invariant-loop-i words memory₀ i₀ memory i =
     (i ≤ length words) × (length memory ≡ length memory₀) × (sets memory i (drop i words) ≡ sets memory₀ 0 words)
 
-abbrev decreases_loop : tie.decreases_loop
-decreases_loop words memory₀ i₀ memory i = length words - i
+abbrev decreases-loop-i : tie.decreases-loop-i
+decreases-loop-i words memory₀ i₀ memory i = length words - i
 
-loop_again : tie.Need-loop-preserved invariant_loop decreases_loop
+loop_again : tie.Need-loop-i-preserved invariant-loop-i decreases-loop-i
 loop_again c = (omega arith, simp length-set (search rules), search sets_next)
 
 pub copy_spec : {M : Type 1} → statement M
 copy_spec =
     tie.close
     (tie.spec
-    invariant_loop
-    decreases_loop
+    invariant-loop-i
+    decreases-loop-i
     (λ c. (omega arith, refl, refl))
     (λ c. search rules) (λ c. search rules) (λ c. search rules) (λ c. omega arith) (λ c. omega arith)
     (λ c. omega arith)

@@ -7,18 +7,18 @@ use Rattle.sheet.proofs.WriteLaws.{Counting, counting_start, counting_next, coun
 use Rattle.sheet.proofs.write.count_records.Statement.{statement}
 use Rattle.sheet.proofs.write.count_records.Tie as tie
 
-abbrev invariant_loop : tie.invariant_loop
-invariant_loop memory count₀ before₀ i₀ count before i = Counting memory count before i
+abbrev invariant-loop-i : tie.invariant-loop-i
+invariant-loop-i memory count₀ before₀ i₀ count before i = Counting memory count before i
 
-abbrev decreases_loop : tie.decreases_loop
-decreases_loop memory count₀ before₀ i₀ count before i = length memory - i
+abbrev decreases-loop-i : tie.decreases-loop-i
+decreases-loop-i memory count₀ before₀ i₀ count before i = length memory - i
 
 pub count_records_spec : {M : Type 1} → statement M
 count_records_spec =
     tie.close
     (tie.spec
-    invariant_loop
-    decreases_loop
+    invariant-loop-i
+    decreases-loop-i
     (λ c. search counting_start)
     (λ c. search rules) (λ c. search rules) (λ c κs. search rules) (λ c. omega arith) (λ c. omega arith)
     (λ c. omega arith)

@@ -7,18 +7,18 @@ use Rattle.sheet.proofs.WriteLaws.{Summing, summing_start, summing_next, summing
 use Rattle.sheet.proofs.write.count_words.Statement.{statement}
 use Rattle.sheet.proofs.write.count_words.Tie as tie
 
-abbrev invariant_loop : tie.invariant_loop
-invariant_loop memory count₀ i₀ count i = Summing memory count i
+abbrev invariant-loop-i : tie.invariant-loop-i
+invariant-loop-i memory count₀ i₀ count i = Summing memory count i
 
-abbrev decreases_loop : tie.decreases_loop
-decreases_loop memory count₀ i₀ count i = length memory - i
+abbrev decreases-loop-i : tie.decreases-loop-i
+decreases-loop-i memory count₀ i₀ count i = length memory - i
 
 pub count_words_spec : {M : Type 1} → statement M
 count_words_spec =
     tie.close
     (tie.spec
-    invariant_loop
-    decreases_loop
+    invariant-loop-i
+    decreases-loop-i
     (λ c. search summing_start)
     (λ c. search rules) (λ c. search rules) (λ c κs. search rules) (λ c. omega arith) (λ c. omega arith)
     (λ c. omega arith)

@@ -7,6 +7,6 @@ pub needed_spec : {M : Type 1} → statement M
 needed_spec =
     tie.close
     (tie.spec
-    (λ c. needs_none _ _ c.if1.true)
-    (λ c. needs_two _ _ c.before.if1.false c.if2.true)
-    (λ c. needs_one _ _ c.before.if1.false c.if2.false))
+    (λ c. needs_none _ _ c.if-word-eq0.true)
+    (λ c. needs_two _ _ c.before.if-word-eq0.false c.if-before-eq0.true)
+    (λ c. needs_one _ _ c.before.if-word-eq0.false c.if-before-eq0.false))

@@ -6,18 +6,18 @@ use Rattle.sheet.proofs.WriteLaws.{Presetting, presetting_start, presetting_next
 use Rattle.sheet.proofs.write.put_presets.Statement.{statement}
 use Rattle.sheet.proofs.write.put_presets.Tie as tie
 
-abbrev invariant_loop : tie.invariant_loop
-invariant_loop core sheet₀ r₀ sheet r = Presetting core sheet₀ sheet r
+abbrev invariant-loop-r : tie.invariant-loop-r
+invariant-loop-r core sheet₀ r₀ sheet r = Presetting core sheet₀ sheet r
 
-abbrev decreases_loop : tie.decreases_loop
-decreases_loop core sheet₀ r₀ sheet r = 12 - r
+abbrev decreases-loop-r : tie.decreases-loop-r
+decreases-loop-r core sheet₀ r₀ sheet r = 12 - r
 
 pub put_presets_spec : {M : Type 1} → statement M
 put_presets_spec =
     tie.close
     (tie.spec
-    invariant_loop
-    decreases_loop
+    invariant-loop-r
+    decreases-loop-r
     (λ c. search presetting_start)
     (λ c κs. search rules) (λ c κs. search rules) (λ c. omega arith) (λ c. omega arith) (λ c. omega arith)
     (λ c. omega arith) (λ c. omega arith)

@@ -7,18 +7,18 @@ use Rattle.sheet.proofs.WriteLaws.{Stretching, stretching_start, stretching_room
 use Rattle.sheet.proofs.write.put_stretches.Statement.{statement}
 use Rattle.sheet.proofs.write.put_stretches.Tie as tie
 
-abbrev invariant_loop : tie.invariant_loop
-invariant_loop memory sheet₀ at₀ before₀ i₀ sheet at before i = Stretching memory sheet₀ sheet at before i
+abbrev invariant-loop-i : tie.invariant-loop-i
+invariant-loop-i memory sheet₀ at₀ before₀ i₀ sheet at before i = Stretching memory sheet₀ sheet at before i
 
-abbrev decreases_loop : tie.decreases_loop
-decreases_loop memory sheet₀ at₀ before₀ i₀ sheet at before i = length memory - i
+abbrev decreases-loop-i : tie.decreases-loop-i
+decreases-loop-i memory sheet₀ at₀ before₀ i₀ sheet at before i = length memory - i
 
 pub put_stretches_spec : {M : Type 1} → statement M
 put_stretches_spec =
     tie.close
     (tie.spec
-    invariant_loop
-    decreases_loop
+    invariant-loop-i
+    decreases-loop-i
     (λ c. search stretching_start)
     (λ c. search rules)
     (λ c. search rules)

@@ -9,7 +9,7 @@ pub put_word_spec : {M : Type 1} → statement M
 put_word_spec =
     tie.close
     (tie.spec
-    (λ c. put_none _ _ _ _ _ c.if1.true)
+    (λ c. put_none _ _ _ _ _ c.if-word-eq0.true)
     (λ c. search rules)
     (λ c. search rules)
     (λ c. search rules)
@@ -20,10 +20,10 @@ put_word_spec =
     (λ c. search room_second)
     (λ c. search rules)
     (λ c. simp length-set)
-    (λ c. put_first _ _ _ _ _ c.before.if1.false c.if2.true)
+    (λ c. put_first _ _ _ _ _ c.before.if-word-eq0.false c.if-before-eq0.true)
     (λ c. search rules)
     (λ c. search rules)
     (λ c. search room_within)
     (λ c. search rules)
     (λ c. search rules)
-    (λ c. put_within _ _ _ _ _ c.before.if1.false c.if2.false))
+    (λ c. put_within _ _ _ _ _ c.before.if-word-eq0.false c.if-before-eq0.false))
