@@ -14,4 +14,4 @@ put_field_spec =
     (λ c κs. search rules)
     (λ c.
     let ten = field_32 c.before.before.before.before.args.n (omega arith) in
-    (put_then c.before.before.put_byte.ensures c.put_number_lem.ensures, omega arith)))
+    (put_then c.before.before.put_byte-next.ensures c.put_number.ensures, omega arith)))

@@ -10,18 +10,18 @@ use Rattle.line.proofs.PutLaws.{put_no_fields, put_next, put_last}
 use Rattle.line.proofs.put.put_fields.Statement.{statement}
 use Rattle.line.proofs.put.put_fields.Tie as tie
 
-abbrev invariant_loop : tie.invariant_loop
-invariant_loop out₀ at words next₀ i₀ out next i = (i ≤ length words) × (next ≤ at + i * 6) × Put out₀ out at next (fields (take i words))
+abbrev invariant-loop-i : tie.invariant-loop-i
+invariant-loop-i out₀ at words next₀ i₀ out next i = (i ≤ length words) × (next ≤ at + i * 6) × Put out₀ out at next (fields (take i words))
 
-abbrev decreases_loop : tie.decreases_loop
-decreases_loop out₀ at words next₀ i₀ out next i = length words - i
+abbrev decreases-loop-i : tie.decreases-loop-i
+decreases-loop-i out₀ at words next₀ i₀ out next i = length words - i
 
 pub put_fields_spec : {M : Type 1} → statement M
 put_fields_spec =
     tie.close
     (tie.spec
-    invariant_loop
-    decreases_loop
+    invariant-loop-i
+    decreases-loop-i
     (λ c. (omega arith, omega arith, search put_no_fields))
     (λ c. search rules)
     (λ c. search rules)

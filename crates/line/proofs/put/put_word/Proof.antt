@@ -10,18 +10,18 @@ use Rattle.line.proofs.PutLaws.{put_all}
 use Rattle.line.proofs.put.put_word.Statement.{statement}
 use Rattle.line.proofs.put.put_word.Tie as tie
 
-abbrev invariant_loop : tie.invariant_loop
-invariant_loop out₀ word i₀ out i = (i ≤ length word) × (length out ≡ length out₀) × (sets out i (drop i word) ≡ sets out₀ 0 word)
+abbrev invariant-loop-i : tie.invariant-loop-i
+invariant-loop-i out₀ word i₀ out i = (i ≤ length word) × (length out ≡ length out₀) × (sets out i (drop i word) ≡ sets out₀ 0 word)
 
-abbrev decreases_loop : tie.decreases_loop
-decreases_loop out₀ word i₀ out i = length word - i
+abbrev decreases-loop-i : tie.decreases-loop-i
+decreases-loop-i out₀ word i₀ out i = length word - i
 
 pub put_word_spec : {M : Type 1} → statement M
 put_word_spec =
     tie.close
     (tie.spec
-    invariant_loop
-    decreases_loop
+    invariant-loop-i
+    decreases-loop-i
     (λ c. (omega arith, refl, refl))
     (λ c. search rules)
     (λ c. omega arith)
