@@ -3,7 +3,7 @@
 #![tactic(auto)]
 
 use instructions::{DR, Decoded, DecodedDR, DecodedGPR, DecodedSPR, GPR, Instruction, SPR};
-use libc::STDOUT_FILENO;
+use std::io;
 
 // The names of the rows, eight bytes each: the 43 kinds, then the rows that have a name below.
 const NAMES: [u8; 384] =
@@ -21,17 +21,15 @@ const SPECIAL: u8 = 46;
 
 const DECIMAL: u8 = 47;
 
-fn main() {
+fn main(rt: HostRuntime) -> io::Result<()> {
     // A count for every byte, so that a row needs no bound.
     let mut counts = [0; 256];
     count_words(&mut counts);
-    let mut row = 0;
-    while row < 48 {
-        io::write_all(STDOUT_FILENO, &NAMES[row * 8..row * 8 + 8]);
-        io::print_decimal(STDOUT_FILENO, counts[row]);
-        io::write_all(STDOUT_FILENO, b"\n");
-        row += 1;
+    for row in 0..48 {
+        rt.write_all(&NAMES[row * 8..row * 8 + 8])?;
+        println!(rt; "{}", counts[row])?;
     }
+    Ok(())
 }
 
 fn count_words(counts: &mut [u64; 256]) {
@@ -52,7 +50,7 @@ fn count(counts: &mut [u64; 256], w: u16) {
 // Counts one more in a row, or none.
 fn add(counts: &mut [u64; 256], row: u8, one: bool) {
     let at = row as usize;
-    counts[at] = std::num::wrapping_add_u64(counts[at], one as u64);
+    counts[at] = counts[at].wrapping_add(one as u64);
 }
 
 // The row in which a word counts: that of its kind, or that it is of none or does not come back.
