@@ -3,42 +3,42 @@
 #![tactic(auto)]
 
 use order::Order;
+use std::io;
 
-fn text(s: &[u8]) {
-    io::write_all(1, s);
+fn text(rt: &impl Print, s: &[u8]) -> io::Result<()> {
+    rt.write_all(s)
 }
 
-fn number(n: u64) {
-    io::print_decimal(1, n);
+fn number(rt: &impl Print, n: u64) -> io::Result<()> {
+    print!(rt; "{n}")
 }
 
-fn word(w: u16) {
-    number(w as u64);
+fn word(rt: &impl Print, w: u16) -> io::Result<()> {
+    number(rt, w as u64)
 }
 
-fn words(list: &[u16]) {
-    let mut i = 0;
-    while i < list.len() {
-        word(list[i]);
-        i += 1;
+fn words(rt: &impl Print, list: &[u16]) -> io::Result<()> {
+    for w in list {
+        word(rt, *w)?;
     }
+    Ok(())
 }
 
 // < if the first comes first, > if the second does.
-fn sign(order: Order) {
+fn sign(rt: &impl Print, order: Order) -> io::Result<()> {
     match order {
-        Order::First => text(b" <"),
-        Order::Second => text(b" >"),
-        Order::Equal => text(b" ="),
+        Order::First => text(rt, b" <"),
+        Order::Second => text(rt, b" >"),
+        Order::Equal => text(rt, b" ="),
     }
 }
 
 // The order of two lists, and from which place on the part of the earlier one is.
-fn compare<'a>(first: &'a [u16], second: &'a [u16]) {
-    sign(order::compare(first, second));
+fn compare<'a>(rt: &impl Print, first: &'a [u16], second: &'a [u16]) -> io::Result<()> {
+    sign(rt, order::compare(first, second))?;
     let part = order::earlier_part(first, second);
-    number(part.from as u64);
-    text(b":");
+    number(rt, part.from as u64)?;
+    text(rt, b":")
 }
 
 // The first n words, or all.
@@ -76,37 +76,35 @@ fn list<'a>(k: u16, room: &'a mut [u16]) -> &'a [u16] {
 }
 
 // List k against each list.
-fn row(k: u16) {
+fn row(rt: &impl Print, k: u16) -> io::Result<()> {
     let mut room = [0u16; 3];
-    cells(list(k, &mut room));
-    text(b"\n");
+    cells(rt, list(k, &mut room))?;
+    text(rt, b"\n")
 }
 
-fn cells(first: &[u16]) {
-    words(first);
-    let mut k = 1;
-    while k < 16 {
-        cell(first, k);
-        k += 1;
+fn cells(rt: &impl Print, first: &[u16]) -> io::Result<()> {
+    words(rt, first)?;
+    for k in 1..16 {
+        cell(rt, first, k)?;
     }
+    Ok(())
 }
 
-fn cell(first: &[u16], k: u16) {
+fn cell(rt: &impl Print, first: &[u16], k: u16) -> io::Result<()> {
     let mut room = [0u16; 3];
-    show_cell(first, list(k, &mut room));
+    show_cell(rt, first, list(k, &mut room))
 }
 
-fn show_cell<'a>(first: &'a [u16], second: &'a [u16]) {
-    compare(first, second);
-    words(order::earlier(first, second));
+fn show_cell<'a>(rt: &impl Print, first: &'a [u16], second: &'a [u16]) -> io::Result<()> {
+    compare(rt, first, second)?;
+    words(rt, order::earlier(first, second))
 }
 
-fn table() {
-    let mut k = 1;
-    while k < 16 {
-        row(k);
-        k += 1;
+fn table(rt: &impl Print) -> io::Result<()> {
+    for k in 1..16 {
+        row(rt, k)?;
     }
+    Ok(())
 }
 
 // A list of n words that are 0 but for one at a place, if it has it.
@@ -118,35 +116,35 @@ fn zeros_but<'a>(n: usize, at: usize, w: u16, room: &'a mut [u16]) -> &'a [u16] 
 }
 
 // Two such lists.
-fn long(n: usize, m: usize, at: usize, v: u16, w: u16) {
+fn long(rt: &impl Print, n: usize, m: usize, at: usize, v: u16, w: u16) -> io::Result<()> {
     let mut room = [0u16; 70000];
-    against(zeros_but(n, at, v, &mut room), m, at, w);
+    against(rt, zeros_but(n, at, v, &mut room), m, at, w)
 }
 
-fn against(first: &[u16], m: usize, at: usize, w: u16) {
+fn against(rt: &impl Print, first: &[u16], m: usize, at: usize, w: u16) -> io::Result<()> {
     let mut room = [0u16; 70000];
-    show_long(first, zeros_but(m, at, w, &mut room));
+    show_long(rt, first, zeros_but(m, at, w, &mut room))
 }
 
 // How long the part is, and its first word.
-fn show_long<'a>(first: &'a [u16], second: &'a [u16]) {
-    compare(first, second);
+fn show_long<'a>(rt: &impl Print, first: &'a [u16], second: &'a [u16]) -> io::Result<()> {
+    compare(rt, first, second)?;
     let part = order::earlier(first, second);
-    number(part.len() as u64);
+    number(rt, part.len() as u64)?;
     if 0 < part.len() {
-        text(b" ");
-        word(part[0]);
+        text(rt, b" ")?;
+        word(rt, part[0])?;
     }
-    text(b"\n");
+    text(rt, b"\n")
 }
 
-fn main() {
-    table();
-    long(65536, 65537, 65536, 0, 0);
-    long(65536, 65537, 65536, 0, 1);
-    long(65537, 65536, 65536, 1, 0);
-    long(70000, 70000, 65537, 0x7FFF, 0x8000);
-    long(70000, 70000, 69999, 0xFFFF, 0xFFFE);
-    long(70000, 0, 0, 0, 0);
-    long(0, 70000, 69999, 0, 1);
+fn main(rt: HostRuntime) -> io::Result<()> {
+    table(&rt)?;
+    long(&rt, 65536, 65537, 65536, 0, 0)?;
+    long(&rt, 65536, 65537, 65536, 0, 1)?;
+    long(&rt, 65537, 65536, 65536, 1, 0)?;
+    long(&rt, 70000, 70000, 65537, 0x7FFF, 0x8000)?;
+    long(&rt, 70000, 70000, 69999, 0xFFFF, 0xFFFE)?;
+    long(&rt, 70000, 0, 0, 0, 0)?;
+    long(&rt, 0, 70000, 69999, 0, 1)
 }
