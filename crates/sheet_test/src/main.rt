@@ -7,13 +7,15 @@ mod load;
 mod show;
 mod write;
 
-fn main() {
-    load::sheets(&cases::SHEETS);
-    load::lengths();
-    load::word_lists();
-    write::small(&cases::MEMORIES);
-    write::room();
-    write::large();
-    input::small();
-    input::large();
+use std::io;
+
+fn main(rt: HostRuntime) -> io::Result<()> {
+    load::sheets(&rt, &cases::SHEETS)?;
+    load::lengths(&rt)?;
+    load::word_lists(&rt)?;
+    write::small(&rt, &cases::MEMORIES)?;
+    write::room(&rt)?;
+    write::large(&rt)?;
+    input::small(&rt)?;
+    input::large(&rt)
 }

@@ -1,0 +1,6 @@
+-- `sheet_test::load::sheets` ends: the loop goes up the list.
+use Rattle.std.proofs.Common.{length, ◌-◌}
+use Rattle.sheet_test.proofs.load.sheets.Given as goal
+
+abbrev pub decreases-loop-i : goal.decreases-loop-i
+decreases-loop-i g l = length l.list - l.i
