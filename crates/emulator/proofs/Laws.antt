@@ -10,7 +10,6 @@ use Rattle.instructions.specs.declared.reg.GeneralPurposeRegister.{GeneralPurpos
 use Rattle.instructions.specs.declared.reg.SpecialPurposeRegister.{SpecialPurposeRegister}
 use Rattle.instructions.specs.declared.reg.SpecialPurposeRegister.TheVariants.{EF}
 use Rattle.execute.specs.Flags.{with_cond}
-use Rattle.execute.specs.Registers.{registers}
 use Rattle.execute.specs.Word.{add_word, sub_word}
 use Rattle.execute.specs.declared.effect.Effect.{Effect}
 use Rattle.execute.specs.declared.effect.Effect.TheVariants as effect

@@ -14,7 +14,7 @@ use Rattle.instructions.proofs.Cases.{by_test}
 use Rattle.emulator.specs.Core.{core_of, is_halted}
 use Rattle.emulator.specs.Log.{Logged, logged, read_log}
 use Rattle.emulator.specs.Memory.{refused_length}
-use Rattle.emulator.specs.Outcome.{Outcome, progress_of, end_of, ended, refused}
+use Rattle.emulator.specs.Outcome.{Outcome, progress_of, end_of, refused}
 use Rattle.emulator.specs.Machine.{plan_of, Store, Turn, turn, cycle_of, Ran, ran, next_of, plain, run_from}
 use Rattle.emulator.specs.declared.core_record.Core.{Core}
 use Rattle.emulator.specs.declared.core_record.Run.{Run}
@@ -25,7 +25,7 @@ use Rattle.emulator.specs.declared.stop.Stop.{Stop}
 use Rattle.emulator.proofs.Keeps.{Leads, next_leads, run_leads}
 use Rattle.emulator.proofs.Runs.{stop_elim, run_halted, run_limit, run_turn, one_more}
 use Rattle.replay.specs.Places.{Along, Off, Goes, finished_of}
-use Rattle.replay.specs.Replay.{Tape, tape, tape_store, same, Replayed, replayed, answer_of, replay_of}
+use Rattle.replay.specs.Replay.{Tape, tape, tape_store, Replayed, replayed, answer_of, replay_of}
 use Rattle.replay.specs.declared.cycle.Turned.{Turned}
 use Rattle.replay.proofs.Tapes.{same_self, same_not}
 

@@ -16,7 +16,7 @@ use Rattle.emulator.specs.declared.memory.Read.{Read}
 use Rattle.emulator.specs.declared.memory.Write.{Write}
 use Rattle.emulator.proofs.Keeps.{Leads}
 use Rattle.emulator.proofs.Runs.{accepted_run}
-use Rattle.replay.specs.Replay.{Tape, tape, read_tape, write_tape, tape_store, same, answer_of, replay_of}
+use Rattle.replay.specs.Replay.{Tape, tape, read_tape, write_tape, tape_store, answer_of, replay_of}
 use Rattle.replay.proofs.Replays.{Begins, begins_leads}
 use Rattle.replay.proofs.Tapes.{same_self}
 use Rattle.run_laws.proofs.Logs.{logged_plain}

@@ -3,7 +3,7 @@ use Rattle.std.specs.Prelude.{ℕ, zero, suc, ◌+◌, ◌≡◌}
 use Rattle.instructions.specs.Choice.{if◌then◌else◌}
 use Rattle.emulator.specs.Core.{is_halted}
 use Rattle.emulator.specs.Memory.{Memory, Kept}
-use Rattle.emulator.specs.Outcome.{stepped, halted, limit}
+use Rattle.emulator.specs.Outcome.{halted, limit}
 use Rattle.emulator.specs.Machine.{plan_of, refusal_of, Turn, step_of, unmarked, Ran, ran, is_stepped, run_of}
 use Rattle.emulator.specs.declared.core_record.Core.{Core}
 

@@ -1,5 +1,5 @@
 -- `put_number`: a law for one digit and one for more.
-use Rattle.std.proofs.Common.{◌≤◌, ◌<◌, length, ap, arith}
+use Rattle.std.proofs.Common.{length, ap, arith}
 use Rattle.line.proofs.DecimalLaws.{decimal_one, length_more}
 use Rattle.line.proofs.PutLaws.{put_one, put_more}
 use Rattle.line.proofs.put.+put_number.Goals as goal

@@ -1,5 +1,5 @@
 -- `put_refused`: a refusal's number has five digits at most.
-use Rattle.std.proofs.Common.{◌≤◌, arith}
+use Rattle.std.proofs.Common.{arith}
 use Rattle.line.proofs.DecimalLaws.{field_16}
 use Rattle.line.proofs.PutLaws.{put_whole}
 use Rattle.line.proofs.LineLaws.{put_refused}

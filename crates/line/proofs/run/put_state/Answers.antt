@@ -1,5 +1,5 @@
 -- `put_state`: the steps have ten digits at most.
-use Rattle.std.proofs.Common.{◌≤◌, arith}
+use Rattle.std.proofs.Common.{arith}
 use Rattle.line.proofs.DecimalLaws.{field_32}
 use Rattle.line.proofs.LineLaws.{put_state_lem}
 use Rattle.line.proofs.run.put_state.Goals as goal
