@@ -1,5 +1,5 @@
 -- Laws of the log: one for each way through the code that writes it.
-use Rattle.std.specs.Prelude.{◌≡◌, ℕ, suc, ◌+◌, ◌-◌, ◌≤◌, Bool, true, false, ltb, List, [], ◌++◌, length, set}
+use Rattle.std.specs.Prelude.{◌≡◌, ℕ, suc, ◌+◌, ◌-◌, ◌≤◌, Bool, true, false, ltb, List, [], ◌++◌, length, set, if◌then◌else◌}
 use mathlib.Core.Path.{refl, sym, ap, ◌∙◌}
 use native.Mathlib.Nat.{add-zero, zero-add}
 use native.Mathlib.Numerals.{add-one}
@@ -7,7 +7,6 @@ use native.Mathlib.Omega.{arith}
 use lib.ListN.{length-append}
 use lib.Seq.{sets, length-sets}
 use borrow.Author.Tests.{ltb-false}
-use Rattle.instructions.specs.Choice.{if◌then◌else◌}
 use Rattle.emulator.specs.Log.{address_word, value_word, entry_of, is_full, Written, written, written_of}
 use Rattle.emulator.specs.Parts.{reads_of, reads_log, room_of, appended}
 use Rattle.emulator.specs.declared.effects.Reply.{Reply}

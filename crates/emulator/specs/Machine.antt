@@ -1,7 +1,6 @@
 -- One step and the run (document 01), with its log (document 02, CR 2). What an instruction does, what an access does and what a run does
 -- stand apart: an access and a run see an instruction only through its plan.
-use Rattle.std.specs.Prelude.{ℕ, zero, suc, ◌+◌, Bool, true, false, List, [], ◌++◌, length, replicate, ◌==◌, nat_eq}
-use Rattle.instructions.specs.Choice.{if◌then◌else◌}
+use Rattle.std.specs.Prelude.{ℕ, zero, suc, ◌+◌, Bool, true, false, List, [], ◌++◌, length, replicate, ◌==◌, nat_eq, if◌then◌else◌}
 use Rattle.instructions.specs.Decoding.{decode_of}
 use Rattle.instructions.specs.declared.ins.encoding.Decoded.{Decoded}
 use Rattle.instructions.specs.declared.reg.GeneralPurposeRegister.{GeneralPurposeRegister}
@@ -249,15 +248,15 @@ module _ (plan : Core → ℕ → Plan) where
 
   -- the run in a setting: the host tests, then all marks 0, then the turns
   unfoldable pub run_in : Setting → Core → Memory → ℕ → Logged (Ran Memory)
-  run_in given c m up_to_lem =
+  run_in given c m up_to =
       if refusal_of m == 0
-      then run_from memory_store plan given up_to_lem 0 c (unmarked m) []
+      then run_from memory_store plan given up_to 0 c (unmarked m) []
       else logged (ran (refused (refusal_of m)) 0 c m) []
 
   -- the run without a log
   unfoldable pub run_of : Core → Memory → ℕ → Ran Memory
-  run_of c m up_to_lem = (run_in plain c m up_to_lem).result
+  run_of c m up_to = (run_in plain c m up_to).result
 
   -- the run with a buffer lent for its log
   unfoldable pub run_logged_of : Core → Memory → ℕ → List ℕ → RanLogged
-  run_logged_of c m up_to_lem buffer = in_buffer (logging_in buffer) buffer (run_in (logging_in buffer) c m up_to_lem)
+  run_logged_of c m up_to buffer = in_buffer (logging_in buffer) buffer (run_in (logging_in buffer) c m up_to)

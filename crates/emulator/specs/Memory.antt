@@ -1,6 +1,5 @@
 -- Memory with its marks, and what an access to it comes to (document 01, Records, One step and Stops).
-use Rattle.std.specs.Prelude.{◌≡◌, ℕ, ◌+◌, ◌/◌, ◌%◌, Bool, true, List, length, ◌==◌, nat_eq, nat_lt, slice_index, slice_set}
-use Rattle.instructions.specs.Choice.{if◌then◌else◌}
+use Rattle.std.specs.Prelude.{◌≡◌, ℕ, ◌+◌, ◌/◌, ◌%◌, Bool, true, List, length, ◌==◌, nat_eq, nat_lt, slice_index, slice_set, if◌then◌else◌}
 use Rattle.emulator.specs.declared.memory.Read.{Read}
 use Rattle.emulator.specs.declared.memory.Read.TheVariants.{Word}
 use Rattle.emulator.specs.declared.memory.Write.{Write}

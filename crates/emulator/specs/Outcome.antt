@@ -1,6 +1,5 @@
 -- How a step and a run come out, by document 01's numbers (The run; Stops), and what each answer of the code says of it.
-use Rattle.std.specs.Prelude.{ℕ, ◌==◌}
-use Rattle.instructions.specs.Choice.{if◌then◌else◌}
+use Rattle.std.specs.Prelude.{ℕ, ◌==◌, if◌then◌else◌}
 use Rattle.instructions.specs.Decoding.{undecodable}
 use Rattle.emulator.specs.declared.stop.Stop.{Stop}
 use Rattle.emulator.specs.declared.stop.Stop.TheVariants as stops

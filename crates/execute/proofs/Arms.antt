@@ -1,7 +1,7 @@
 -- Laws for the arms of `execute` and of its registers: the premises are what an arm's match, its test and its calls tell.
+use Rattle.std.specs.Prelude.{if◌then◌else◌}
 use Rattle.std.proofs.Common.{◌≡◌, ℕ, ◌-◌, ◌%◌, ◌<◌, ◌≤◌, Bool, true, false, eqb, List, get_or, ◌∙◌, ap₂, zero-add, le-ltb, lt-ltb, eq-eqb, ne_eqb}
 use Rattle.instructions.specs.Bounded.{Bounded}
-use Rattle.instructions.specs.Choice.{if◌then◌else◌}
 use Rattle.instructions.specs.Reg.{gpr_number}
 use Rattle.instructions.specs.declared.ins.Instruction.{Instruction}
 use Rattle.instructions.specs.declared.reg.GeneralPurposeRegister.{GeneralPurposeRegister}

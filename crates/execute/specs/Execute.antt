@@ -1,7 +1,6 @@
 -- What one instruction does (document 01, One step): a table with one row for each of the 43 kinds, on plain numbers.
 -- r has the registers, ip already advanced; w is the instruction's word. Decimal, Amount and Negation are the stops 12, 13 and 14.
-use Rattle.std.specs.Prelude.{ℕ, ◌-◌, ◌*◌, ◌/◌, ◌%◌, ◌^◌, Bool, not, ◌==◌, bit_and, bit_or, bit_xor, nat_le, nat_lt}
-use Rattle.instructions.specs.Choice.{if◌then◌else◌}
+use Rattle.std.specs.Prelude.{ℕ, ◌-◌, ◌*◌, ◌/◌, ◌%◌, ◌^◌, Bool, not, ◌==◌, bit_and, bit_or, bit_xor, nat_le, nat_lt, if◌then◌else◌}
 use Rattle.instructions.specs.declared.reg.SpecialPurposeRegister.{SpecialPurposeRegister}
 use Rattle.instructions.specs.declared.reg.SpecialPurposeRegister.TheVariants.{IP, RP, SP, EF}
 use Rattle.instructions.specs.declared.ins.Instruction.{Instruction}

@@ -1,6 +1,5 @@
 -- Arithmetic on 16-bit words, as natural numbers below 65,536 (document 01, One step).
-use Rattle.std.specs.Prelude.{ℕ, ◌+◌, ◌-◌, ◌*◌, ◌/◌, ◌%◌, ◌^◌, Bool, ltb, ◌==◌, nat_lt}
-use Rattle.instructions.specs.Choice.{if◌then◌else◌}
+use Rattle.std.specs.Prelude.{ℕ, ◌+◌, ◌-◌, ◌*◌, ◌/◌, ◌%◌, ◌^◌, Bool, ltb, ◌==◌, nat_lt, if◌then◌else◌}
 
 -- sums and differences are taken modulo 65,536
 abbrev pub add_word : ℕ → ℕ → ℕ

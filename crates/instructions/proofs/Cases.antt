@@ -1,7 +1,7 @@
 -- By cases of a test.
+use Rattle.std.specs.Prelude.{if◌then◌else◌}
 use mathlib.Core.Bool.{Bool, true, false}
 use mathlib.Core.Path.{◌≡◌, refl, subst}
-use Rattle.instructions.specs.Choice.{if◌then◌else◌}
 
 pub by_test : {A : Type 0} (t : Bool) → (t ≡ true → A) → (t ≡ false → A) → A
 by_test true f g = f refl

@@ -1,6 +1,5 @@
 -- The registers' numbers (document 01, Records).
-use Rattle.std.specs.Prelude.{ℕ, ◌%◌, [], ◌∷◌, ltb, get_or}
-use Rattle.instructions.specs.Choice.{if◌then◌else◌}
+use Rattle.std.specs.Prelude.{ℕ, ◌%◌, [], ◌∷◌, ltb, get_or, if◌then◌else◌}
 use Rattle.instructions.specs.declared.reg.GeneralPurposeRegister.{GeneralPurposeRegister}
 use Rattle.instructions.specs.declared.reg.GeneralPurposeRegister.TheVariants.{R0, R1, R2, R3, R4, R5, R6, R7}
 use Rattle.instructions.specs.declared.reg.DecodedGPR.{DecodedGPR}

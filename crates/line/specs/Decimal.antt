@@ -1,6 +1,5 @@
 -- Numbers in decimal, as ASCII codes (document 01, the program).
-use Rattle.std.specs.Prelude.{ℕ, zero, suc, ◌+◌, ◌/◌, ◌%◌, List, [], ◌∷◌, ◌++◌, ltb}
-use Rattle.instructions.specs.Choice.{if◌then◌else◌}
+use Rattle.std.specs.Prelude.{ℕ, zero, suc, ◌+◌, ◌/◌, ◌%◌, List, [], ◌∷◌, ◌++◌, ltb, if◌then◌else◌}
 
 -- a digit: 0 is 48
 abbrev pub digit : ℕ → ℕ

@@ -1,6 +1,5 @@
 -- The line that `berth` prints (document 01, the program).
-use Rattle.std.specs.Prelude.{ℕ, List, [], ◌∷◌, ◌++◌, eqb, replicate}
-use Rattle.instructions.specs.Choice.{if◌then◌else◌}
+use Rattle.std.specs.Prelude.{ℕ, List, [], ◌∷◌, ◌++◌, eqb, replicate, if◌then◌else◌}
 use Rattle.emulator.specs.declared.core_record.Core.{Core}
 use Rattle.emulator.specs.Memory.{Memory, lent}
 use Rattle.emulator.specs.Outcome.{Outcome, stepped, halted, limit, fault, refused, ended}

@@ -1,7 +1,6 @@
 -- The numbers of an instruction for a host: its kind from 0 to 42 in the order of the enum, and its operands. Documents name no such
 -- numbers; a register has its own (document 01, Records).
-use Rattle.std.specs.Prelude.{ℕ, ◌+◌, ◌*◌, ◌^◌, ◌<◌, List, [], ◌∷◌, ◌≡◌, ltb, get_or}
-use Rattle.instructions.specs.Choice.{if◌then◌else◌}
+use Rattle.std.specs.Prelude.{ℕ, ◌+◌, ◌*◌, ◌^◌, ◌<◌, List, [], ◌∷◌, ◌≡◌, ltb, get_or, if◌then◌else◌}
 use Rattle.instructions.specs.Decoding.{undecodable}
 use Rattle.instructions.specs.Encoding.{encode_of}
 use Rattle.instructions.specs.Reg.{gpr_number, gpr_at, spr_number, spr_at, dr_number, dr_at}

@@ -1,7 +1,6 @@
 -- The opcode of a word with the upper byte hi and the lower byte lo (document 01, Words). It need not be believed: what is decoded by
 -- it, `decode_of`, is proved to be the inverse of the table `encode_of`.
-use Rattle.std.specs.Prelude.{ℕ, ◌/◌, ◌%◌, Bool, ltb, eqb}
-use Rattle.opcode.specs.Choice.{if◌then◌else◌}
+use Rattle.std.specs.Prelude.{ℕ, ◌/◌, ◌%◌, Bool, ltb, eqb, if◌then◌else◌}
 use Rattle.opcode.specs.declared.InstructionOpcode.{InstructionOpcode}
 use Rattle.opcode.specs.declared.InstructionOpcode.TheVariants.{Undecodable, Nop, Hlt, Mov, DMov, Putl, Puth, Read, Write, Spread, Spwrite, DRead, DWrite, Push, Pop, Movso, Movsi, Spadd, Spinc, Spdec, Not, And, Booland, Or, Xor, Shl, Shr, Bitset, Neg, Inc, Dec, Add, Sub, Mul, Inv, Eqz, Eq, Gt, Gteq, Jmpoff, Cjmpoff, Cjmp, Call, Ret}
 

@@ -1,8 +1,7 @@
 -- Which of two word lists comes first (document 02, CR 1): they are compared at the first place where they differ, the shorter taken as
 -- followed by zeros.
-use Rattle.std.specs.Prelude.{ℕ, zero, suc, ◌+◌, ◌*◌, min, max, List, length, get_or, drop, ltb, eqb}
+use Rattle.std.specs.Prelude.{ℕ, zero, suc, ◌+◌, ◌*◌, min, max, List, length, get_or, drop, ltb, eqb, if◌then◌else◌}
 use Rattle.std.specs.Borrow.{Bor}
-use Rattle.opcode.specs.Choice.{if◌then◌else◌}
 use Rattle.order.specs.declared.Order.{Order}
 use Rattle.order.specs.declared.Part.{Part}
 

@@ -1,7 +1,6 @@
 -- What the parts of the replay promise, of a place k in the log l. Nothing here says what a replay is: the parts' promises are proved to come
 -- to `replay_of`.
-use Rattle.std.specs.Prelude.{ℕ, ◌≤◌, Bool, List, ◌++◌, ◌≡◌, ltb, length, take, drop}
-use Rattle.instructions.specs.Choice.{if◌then◌else◌}
+use Rattle.std.specs.Prelude.{ℕ, ◌≤◌, Bool, List, ◌++◌, ◌≡◌, ltb, length, take, drop, if◌then◌else◌}
 use Rattle.emulator.specs.Core.{core_of}
 use Rattle.emulator.specs.Log.{entry_of, reply_log, Logged}
 use Rattle.emulator.specs.Memory.{Accessed, accessed}

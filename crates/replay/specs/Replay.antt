@@ -1,6 +1,5 @@
 -- The replay of a log, without the memory (document 02, CR 2).
-use Rattle.std.specs.Prelude.{ℕ, ◌%◌, Bool, true, false, List, [], ◌∷◌, ltb, eqb, get_or, drop}
-use Rattle.instructions.specs.Choice.{if◌then◌else◌}
+use Rattle.std.specs.Prelude.{ℕ, ◌%◌, Bool, true, false, List, [], ◌∷◌, ltb, eqb, get_or, drop, if◌then◌else◌}
 use Rattle.emulator.specs.Log.{Logged}
 use Rattle.emulator.specs.Memory.{refused_length, Accessed, accessed}
 use Rattle.emulator.specs.Outcome.{Outcome, refused, ended}
@@ -60,7 +59,7 @@ answer_of c log r =
 
 -- the replay of a log with a core, the memory's length and the limit: first host test 1
 unfoldable pub replay_of : (Core → ℕ → Plan) → Core → ℕ → ℕ → List ℕ → Replayed
-replay_of plan c size up_to_lem log =
+replay_of plan c size up_to log =
     if refused_length size
     then replayed (refused 1) 0 c
-    else answer_of c log (run_from tape_store plan plain up_to_lem 0 c (tape size log) [])
+    else answer_of c log (run_from tape_store plan plain up_to 0 c (tape size log) [])

@@ -1,6 +1,5 @@
 -- What is claimed of every step and run besides their agreement (document 01, Records and The run).
-use Rattle.std.specs.Prelude.{ℕ, zero, suc, ◌+◌, ◌≡◌}
-use Rattle.instructions.specs.Choice.{if◌then◌else◌}
+use Rattle.std.specs.Prelude.{ℕ, zero, suc, ◌+◌, ◌≡◌, if◌then◌else◌}
 use Rattle.emulator.specs.Core.{is_halted}
 use Rattle.emulator.specs.Memory.{Memory, Kept}
 use Rattle.emulator.specs.Outcome.{halted, limit}

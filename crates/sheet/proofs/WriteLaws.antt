@@ -1,4 +1,5 @@
 -- Laws of writing a sheet, one for each way through the code, and the loops' invariants: what is left of the records makes the whole.
+use Rattle.std.specs.Prelude.{if◌then◌else◌}
 use Prim.Native.Nat.{ℕ, suc, ◌+◌, ◌*◌, ◌-◌, ◌<◌, ◌≤◌}
 use mathlib.Core.Bool.{Bool, true, false}
 use mathlib.Core.List.{List, [], ◌∷◌, ◌++◌}
@@ -11,7 +12,6 @@ use lib.Seq.{sets, drop-cons, length-sets}
 use lib.Dec.{eqb}
 use borrow.Author.Tests.{lt-ltb, le-ltb, eq-eqb, ne_eqb}
 use Rattle.instructions.specs.Bounded.{Bounded}
-use Rattle.instructions.specs.Choice.{if◌then◌else◌}
 use Rattle.emulator.specs.declared.core_record.Core.{Core}
 use Rattle.emulator.specs.Memory.{refused_length}
 use Rattle.sheet.specs.declared.write.Written.{Written}

@@ -1,6 +1,5 @@
 -- A program's input as records, low byte first (document 01, Stops; the program).
-use Rattle.std.specs.Prelude.{ℕ, ◌+◌, ◌*◌, ◌%◌, ◌^◌, List, [], ◌∷◌, length, ltb, eqb}
-use Rattle.instructions.specs.Choice.{if◌then◌else◌}
+use Rattle.std.specs.Prelude.{ℕ, ◌+◌, ◌*◌, ◌%◌, ◌^◌, List, [], ◌∷◌, length, ltb, eqb, if◌then◌else◌}
 use Rattle.sheet.specs.declared.write.Written.{Written}
 use Rattle.sheet.specs.Write.{Wrote, wrote, in_front}
 

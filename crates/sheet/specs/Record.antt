@@ -1,6 +1,5 @@
 -- A record of a rule sheet (document 01, The rule sheet): a 32-bit word, bits 31..28 the kind.
-use Rattle.std.specs.Prelude.{ℕ, ◌-◌, ◌/◌, ◌%◌, ◌^◌, ltb, eqb}
-use Rattle.instructions.specs.Choice.{if◌then◌else◌}
+use Rattle.std.specs.Prelude.{ℕ, ◌-◌, ◌/◌, ◌%◌, ◌^◌, ltb, eqb, if◌then◌else◌}
 use Rattle.instructions.specs.Reg.{gpr_at, spr_at}
 use Rattle.emulator.specs.declared.core_record.Core.{Core}
 use Rattle.emulator.specs.Core.{read_gpr, write_gpr, read_spr, write_spr}

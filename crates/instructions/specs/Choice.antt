@@ -1,2 +1,0 @@
--- A choice by a test, passed on.
-pub use Rattle.opcode.specs.Choice.{if◌then◌else◌}

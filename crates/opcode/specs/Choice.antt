@@ -1,7 +1,0 @@
--- A choice by a test.
-use Rattle.std.specs.Prelude.{Bool, true, false}
-
-infix 10 if◌then◌else◌
-abbrev pub if◌then◌else◌ : {A : Type 0} → Bool → A → A → A
-if◌then◌else◌ true a b = a
-if◌then◌else◌ false a b = b
