@@ -5,15 +5,24 @@
 mod case;
 
 use crate::case::{CASE, replay};
-use libc::{STDIN_FILENO, STDOUT_FILENO};
+use std::io;
+use std::io::{ErrorKind, Read};
 
-fn main() {
+// Reads one case, and answers whether the input had a whole one.
+fn read_case<R: Read>(reader: &mut R, case: &mut [u8; CASE]) -> io::Result<bool> {
+    match reader.read_exact(case) {
+        Ok(()) => Ok(true),
+        Err(e) if e.kind() == ErrorKind::UnexpectedEof => Ok(false),
+        Err(e) => Err(e),
+    }
+}
+
+fn main(rt: HostRuntime) -> io::Result<()> {
     let mut cases: u64 = 0;
     let mut wrong: u64 = 0;
     while cases < 10000 {
         let mut case = [0u8; CASE];
-        let got = io::read_full(STDIN_FILENO, &mut case);
-        if got < CASE {
+        if !read_case(&mut rt.stdin(), &mut case)? {
             break;
         }
         if !replay(&case) {
@@ -21,8 +30,5 @@ fn main() {
         }
         cases += 1;
     }
-    io::print_decimal(STDOUT_FILENO, cases);
-    io::write_all(STDOUT_FILENO, b" cases, ");
-    io::print_decimal(STDOUT_FILENO, wrong);
-    io::write_all(STDOUT_FILENO, b" wrong\n");
+    println!(rt; "{cases} cases, {wrong} wrong")
 }

@@ -4,18 +4,18 @@ use Rattle.std.proofs.Common.{◌-◌, ◌≤◌, rules}
 use Rattle.replay_test.proofs.case.same_memory.Statement.{statement}
 use Rattle.replay_test.proofs.case.same_memory.Tie as tie
 
-abbrev invariant_loop : tie.invariant_loop
-invariant_loop memory marks case i₀ i = i ≤ 32
+abbrev invariant-loop-i : tie.invariant-loop-i
+invariant-loop-i memory marks case i₀ i = i ≤ 32
 
-abbrev decreases_loop : tie.decreases_loop
-decreases_loop memory marks case i₀ i = 32 - i
+abbrev decreases-loop-i : tie.decreases-loop-i
+decreases-loop-i memory marks case i₀ i = 32 - i
 
 pub same_memory_spec : {M : Type 1} → statement M
 same_memory_spec =
     tie.close
     (tie.spec
-    invariant_loop
-    decreases_loop
+    invariant-loop-i
+    decreases-loop-i
     (λ c. search rules) (λ c. search rules) (λ c. search rules) (λ c. search rules) (λ c κs. search rules)
     (λ c. search rules) (λ c. search rules) (λ c. search rules) (λ c. search rules) (λ c. search rules)
     (λ c. search rules) (λ c. search rules) (λ c. search rules)
