@@ -4,6 +4,7 @@
 
 use emulator::{Core, End};
 use replay::replay;
+use std::io;
 
 // putl r0 6; read r1 from [r0]; write r1 to [r0]; read r2 from [r0]; hlt; and at address 6 the word 42. Seven reads, five of them fetches.
 const RULE: [u16; 7] = [0x1006, 0x2001, 0x2081, 0x2002, 0xFFFF, 0, 42];
@@ -12,129 +13,137 @@ const LIMIT: u32 = 9;
 
 const ROOM: usize = 20;
 
-fn text(s: &[u8]) {
-    io::write_all(1, s);
+fn text(rt: &impl Print, s: &[u8]) -> io::Result<()> {
+    rt.write_all(s)
 }
 
-fn number(n: u64) {
-    text(b" ");
-    io::print_decimal(1, n);
+fn number(rt: &impl Print, n: u64) -> io::Result<()> {
+    print!(rt; " {n}")
 }
 
-fn word(w: u16) {
-    number(w as u64);
+fn word(rt: &impl Print, w: u16) -> io::Result<()> {
+    number(rt, w as u64)
 }
 
-fn log_word(w: u32) {
-    number(w as u64);
+fn log_word(rt: &impl Print, w: u32) -> io::Result<()> {
+    number(rt, w as u64)
 }
 
-fn show_end(end: End) {
+fn show_end(rt: &impl Print, end: End) -> io::Result<()> {
     match end {
-        End::Halted => text(b"halted"),
-        End::Limit => text(b"limit"),
+        End::Halted => text(rt, b"halted"),
+        End::Limit => text(rt, b"limit"),
         End::Fault(stop) => {
             let fault = stop.fault();
-            text(b"fault");
-            number(fault.number as u64);
-            number(fault.value as u64);
+            text(rt, b"fault")?;
+            number(rt, fault.number as u64)?;
+            number(rt, fault.value as u64)
         }
         End::Refused(test) => {
-            text(b"refused");
-            number(test as u64);
+            text(rt, b"refused")?;
+            number(rt, test as u64)
         }
         End::Log(end) => {
-            text(b"log");
-            number(end as u64);
+            text(rt, b"log")?;
+            number(rt, end as u64)
         }
     }
 }
 
-fn show_words(log: &[u32]) {
+fn show_words(rt: &impl Print, log: &[u32]) -> io::Result<()> {
     let mut i = 0;
     while i < log.len() {
-        log_word(log[i]);
+        log_word(rt, log[i])?;
         i += 1;
     }
+    Ok(())
 }
 
 // A run with a log: its end, steps and number of log words, and the whole buffer.
-fn run_in(log: &mut [u32]) {
+fn run_in(rt: &impl Print, log: &mut [u32]) -> io::Result<()> {
     let mut memory = RULE;
     let mut marks = [0u8; 7];
     let run = Core::new().run_logged(&mut memory, &mut marks, LIMIT, log);
     let end = run.end;
-    show_end(end);
-    number(run.steps as u64);
-    number(run.logged as u64);
-    text(b":");
-    show_words(log);
-    text(b"\n");
+    show_end(rt, end)?;
+    number(rt, run.steps as u64)?;
+    number(rt, run.logged as u64)?;
+    text(rt, b":")?;
+    show_words(rt, log)?;
+    text(rt, b"\n")
 }
 
 // A replay: its end and steps, and the registers that the rule loads.
-fn replay_of(log: &[u32]) {
+fn replay_of(rt: &impl Print, log: &[u32]) -> io::Result<()> {
     let run = replay(Core::new(), 7, LIMIT, log);
     let end = run.end;
     let core = run.core;
     let gprs = core.gprs;
-    show_end(end);
-    number(run.steps as u64);
-    word(gprs[1]);
-    word(gprs[2]);
-    text(b"\n");
+    show_end(rt, end)?;
+    number(rt, run.steps as u64)?;
+    word(rt, gprs[1])?;
+    word(rt, gprs[2])?;
+    text(rt, b"\n")
 }
 
 // The replay of the first words.
-fn front(log: &[u32], size: usize) {
+fn front(rt: &impl Print, log: &[u32], size: usize) -> io::Result<()> {
     if size <= log.len() {
-        replay_of(&log[..size]);
+        replay_of(rt, &log[..size])?;
     }
+    Ok(())
 }
 
 // The same with a bit of one word the other way round, which is put back after it.
-fn changed(log: &mut [u32], size: usize, at: usize, bit: u32) {
+fn changed(rt: &impl Print, log: &mut [u32], size: usize, at: usize, bit: u32) -> io::Result<()> {
     if at < log.len() {
         log[at] = log[at] ^ bit;
-        front(log, size);
+        let shown = front(rt, log, size);
         log[at] = log[at] ^ bit;
+        shown?;
     }
+    Ok(())
 }
 
 // The same with each word changed: in its lowest bit, in bit 16, and in its kind.
-fn each_changed(log: &mut [u32], size: usize) {
+fn each_changed(rt: &impl Print, log: &mut [u32], size: usize) -> io::Result<()> {
     let mut at = 0;
     while at < size {
-        changed(log, size, at, 1);
-        changed(log, size, at, 0x10000);
-        changed(log, size, at, 0x10000000);
+        changed(rt, log, size, at, 1)?;
+        changed(rt, log, size, at, 0x10000)?;
+        changed(rt, log, size, at, 0x10000000)?;
         at += 1;
     }
+    Ok(())
 }
 
 // A run with so much room.
-fn in_room(log: &mut [u32], room: usize) {
+fn in_room(rt: &impl Print, log: &mut [u32], room: usize) -> io::Result<()> {
     if room <= log.len() {
-        run_in(&mut log[..room]);
+        run_in(rt, &mut log[..room])?;
     }
+    Ok(())
 }
 
-fn main() {
+fn main(rt: HostRuntime) -> io::Result<()> {
     let mut room: usize = 0;
     while room <= ROOM {
         let mut log = [7u32; ROOM];
-        in_room(&mut log, room);
+        in_room(&rt, &mut log, room)?;
         room += 1;
     }
     // the rule needs 16 words, for four must be free before its last step, and logs 14
     let mut log = [7u32; 16];
-    run_in(&mut log);
-    text(b"replays, with two words more, one more, just these, one less, two less\n");
-    front(&log, 16);
-    front(&log, 15);
-    front(&log, 14);
-    front(&log, 13);
-    front(&log, 12);
-    text(b"replays with a word changed\n");
-    each_changed(&mut log, 14);
+    run_in(&rt, &mut log)?;
+    text(
+        &rt,
+        b"replays, with two words more, one more, just these, one less, two less\n",
+    )?;
+    front(&rt, &log, 16)?;
+    front(&rt, &log, 15)?;
+    front(&rt, &log, 14)?;
+    front(&rt, &log, 13)?;
+    front(&rt, &log, 12)?;
+    text(&rt, b"replays with a word changed\n")?;
+    each_changed(&rt, &mut log, 14)
 }
