@@ -3,8 +3,8 @@
 
 ghost use Rattle.std.specs.Prelude.{◌*◌, ◌≤◌, ◌≡◌, length, take};
 
-use libc::STDOUT_FILENO;
 use line::line_of;
+use std::io;
 
 // The ends of a run.
 const EXAMPLE: [u32; 3] = [0x20001003, 0x2000FFFF, 0xF0000002];
@@ -65,12 +65,12 @@ const COUNT: [u32; 2] = [0x20000001, 0xF0000000];
 const COUNT_FIRST: [u32; 3] = [0x20000001, 0xF0000000, 0x00000000];
 
 // Prints the line of an input after its label.
-fn show(label: &[u8], input: &[u8]) {
+fn show(rt: &impl Print, label: &[u8], input: &[u8]) -> io::Result<()> {
     let mut out = [0u8; 128];
     let length = line_of(input, &mut out);
-    io::write_all(STDOUT_FILENO, label);
-    io::write_all(STDOUT_FILENO, b": ");
-    io::write_all(STDOUT_FILENO, &out[..length]);
+    rt.write_all(label)?;
+    rt.write_all(b": ")?;
+    rt.write_all(&out[..length])
 }
 
 // Puts the records into `bytes`, low byte first, and answers how many bytes they take.
@@ -93,45 +93,45 @@ fn put_sheet(sheet: &[u32], bytes: &mut [u8]) -> usize
 }
 
 // Prints the line of a sheet of at most 64 records after its label.
-fn show_sheet(label: &[u8], sheet: &[u32]) {
+fn show_sheet(rt: &impl Print, label: &[u8], sheet: &[u32]) -> io::Result<()> {
     let mut bytes = [0u8; 256];
     if 64 < sheet.len() {
-        return;
+        return Ok(());
     }
     let size = put_sheet(sheet, &mut bytes);
-    show(label, &bytes[..size]);
+    show(rt, label, &bytes[..size])
 }
 
-fn show_ends() {
-    show_sheet(b"example", &EXAMPLE);
-    show_sheet(b"halted before a step", &HALTED);
-    show_sheet(b"presets", &PRESETS);
-    show_sheet(b"limit", &LIMIT);
-    show_sheet(b"counted down", &COUNTED);
-    show_sheet(b"placed word", &PLACED);
+fn show_ends(rt: &impl Print) -> io::Result<()> {
+    show_sheet(rt, b"example", &EXAMPLE)?;
+    show_sheet(rt, b"halted before a step", &HALTED)?;
+    show_sheet(rt, b"presets", &PRESETS)?;
+    show_sheet(rt, b"limit", &LIMIT)?;
+    show_sheet(rt, b"counted down", &COUNTED)?;
+    show_sheet(rt, b"placed word", &PLACED)
 }
 
-fn show_faults() {
-    show_sheet(b"undecodable", &UNDECODABLE);
-    show_sheet(b"fetch past memory", &FETCH);
-    show_sheet(b"push past memory", &PUSH);
-    show_sheet(b"read past memory", &READ);
-    show_sheet(b"large numbers", &LARGE);
-    show_sheet(b"decimal", &DECIMAL);
-    show_sheet(b"shift by 16", &SHIFT);
-    show_sheet(b"bit 65535", &BIT);
-    show_sheet(b"negation", &NEGATION);
+fn show_faults(rt: &impl Print) -> io::Result<()> {
+    show_sheet(rt, b"undecodable", &UNDECODABLE)?;
+    show_sheet(rt, b"fetch past memory", &FETCH)?;
+    show_sheet(rt, b"push past memory", &PUSH)?;
+    show_sheet(rt, b"read past memory", &READ)?;
+    show_sheet(rt, b"large numbers", &LARGE)?;
+    show_sheet(rt, b"decimal", &DECIMAL)?;
+    show_sheet(rt, b"shift by 16", &SHIFT)?;
+    show_sheet(rt, b"bit 65535", &BIT)?;
+    show_sheet(rt, b"negation", &NEGATION)
 }
 
-fn show_refusals() {
-    show_sheet(b"unknown kind", &KIND);
-    show_sheet(b"a bit that must be 0", &BITS);
-    show_sheet(b"register 12", &REGISTER);
-    show_sheet(b"address 32768", &ADDRESS);
-    show_sheet(b"no end", &NO_END);
-    show_sheet(b"after the end", &AFTER_END);
-    show_sheet(b"count", &COUNT);
-    show_sheet(b"count first", &COUNT_FIRST);
+fn show_refusals(rt: &impl Print) -> io::Result<()> {
+    show_sheet(rt, b"unknown kind", &KIND)?;
+    show_sheet(rt, b"a bit that must be 0", &BITS)?;
+    show_sheet(rt, b"register 12", &REGISTER)?;
+    show_sheet(rt, b"address 32768", &ADDRESS)?;
+    show_sheet(rt, b"no end", &NO_END)?;
+    show_sheet(rt, b"after the end", &AFTER_END)?;
+    show_sheet(rt, b"count", &COUNT)?;
+    show_sheet(rt, b"count first", &COUNT_FIRST)
 }
 
 // 8,191 word records of nop and their end record, with room for one record more.
@@ -151,33 +151,34 @@ fn nops() -> [u8; 32772]
 }
 
 // Prints the line of the first `count` bytes after its label.
-fn show_first(label: &[u8], bytes: &[u8], count: usize) {
+fn show_first(rt: &impl Print, label: &[u8], bytes: &[u8], count: usize) -> io::Result<()> {
     if count <= bytes.len() {
-        show(label, &bytes[..count]);
+        show(rt, label, &bytes[..count])?;
     }
+    Ok(())
 }
 
-fn show_short() {
+fn show_short(rt: &impl Print) -> io::Result<()> {
     let bytes = [0u8; 4];
-    show_first(b"0 bytes", &bytes, 0);
-    show_first(b"1 byte", &bytes, 1);
-    show_first(b"2 bytes", &bytes, 2);
-    show_first(b"3 bytes", &bytes, 3);
-    show_first(b"4 bytes", &bytes, 4);
+    show_first(rt, b"0 bytes", &bytes, 0)?;
+    show_first(rt, b"1 byte", &bytes, 1)?;
+    show_first(rt, b"2 bytes", &bytes, 2)?;
+    show_first(rt, b"3 bytes", &bytes, 3)?;
+    show_first(rt, b"4 bytes", &bytes, 4)
 }
 
-fn show_long() {
+fn show_long(rt: &impl Print) -> io::Result<()> {
     let bytes = nops();
-    show_first(b"32764 bytes", &bytes, 32764);
-    show_first(b"32768 bytes", &bytes, 32768);
-    show_first(b"32769 bytes", &bytes, 32769);
-    show_first(b"32772 bytes", &bytes, 32772);
+    show_first(rt, b"32764 bytes", &bytes, 32764)?;
+    show_first(rt, b"32768 bytes", &bytes, 32768)?;
+    show_first(rt, b"32769 bytes", &bytes, 32769)?;
+    show_first(rt, b"32772 bytes", &bytes, 32772)
 }
 
-fn main() {
-    show_ends();
-    show_faults();
-    show_refusals();
-    show_short();
-    show_long();
+fn main(rt: HostRuntime) -> io::Result<()> {
+    show_ends(&rt)?;
+    show_faults(&rt)?;
+    show_refusals(&rt)?;
+    show_short(&rt)?;
+    show_long(&rt)
 }

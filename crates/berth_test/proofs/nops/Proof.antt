@@ -7,18 +7,18 @@ use borrow.Author.Rules.{rules}
 use Rattle.berth_test.proofs.nops.Statement.{statement}
 use Rattle.berth_test.proofs.nops.Tie as tie
 
-abbrev invariant_loop : tie.invariant_loop
-invariant_loop bytes₀ at₀ bytes at = (at ≤ 32768) × (length bytes ≡ 32772)
+abbrev invariant-loop-at : tie.invariant-loop-at
+invariant-loop-at bytes₀ at₀ bytes at = (at ≤ 32768) × (length bytes ≡ 32772)
 
-abbrev decreases_loop : tie.decreases_loop
-decreases_loop bytes₀ at₀ bytes at = 32768 - at
+abbrev decreases-loop-at : tie.decreases-loop-at
+decreases-loop-at bytes₀ at₀ bytes at = 32768 - at
 
 pub nops_spec : {M : Type 1} → statement M
 nops_spec =
     tie.close
     (tie.spec
-    invariant_loop
-    decreases_loop
+    invariant-loop-at
+    decreases-loop-at
     (λ c. (omega arith, length-replicate {A = ℕ} 32772 0))
     (λ c. omega arith)
     (λ c. omega arith)
