@@ -7,12 +7,12 @@ use Rattle.nilguseg_words.proofs.KindLaws.{at_kind, no_kind}
 use Rattle.nilguseg_words.proofs.instruction.second_values.Statement.{statement}
 use Rattle.nilguseg_words.proofs.instruction.second_values.Tie as tie
 
-within : tie.Need-returns
+within : tie.Need-returns-then-kind-lt43
 unfolding kinds
 within c = at_kind (λ (k : Kind). k.second) c.before.args.kind refl
 
-beyond : tie.Need-returns-2
-beyond c = sym (ap (λ (k : Kind). k.second) (no_kind c.before.args.kind c.if1.false))
+beyond : tie.Need-returns-else-kind-lt43
+beyond c = sym (ap (λ (k : Kind). k.second) (no_kind c.before.args.kind c.if-kind-lt43.false))
 
 pub second_values_spec : {M : Type 1} → statement M
 second_values_spec = tie.close (tie.spec (λ c. search rules) (λ c. search rules) within beyond)
