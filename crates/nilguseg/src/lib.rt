@@ -1,4 +1,4 @@
-// What C and Rust hosts call to load, run and write, and to compare word lists. A slice is a pointer and then a length, an array a pointer.
+// What hosts call to load, run and write, and to compare word lists; `nilguseg_c` exports these functions to C.
 // `Instruction::decode` must have no caller here but the cycle, or it is not inlined into the run: see `nilguseg_words`.
 #![tactic(auto)]
 
@@ -21,8 +21,7 @@ pub use core_record::{core_of, put_core};
 pub use number::end_number;
 
 // One step of the core.
-#[unsafe(no_mangle)]
-pub extern "C" fn nilguseg_step(core: &mut [u16; 12], memory: &mut [u16], marks: &mut [u8]) -> u32
+pub fn nilguseg_step(core: &mut [u16; 12], memory: &mut [u16], marks: &mut [u8]) -> u32
     ensures { call result (core.new ∷ memory.new ∷ marks.new ∷ []) ≡ step_call (step_of plan_of (core_from core.old) (lent memory.old marks.old)) }
 {
     let step = core_of(*core).step(memory, marks);
@@ -33,13 +32,7 @@ pub extern "C" fn nilguseg_step(core: &mut [u16; 12], memory: &mut [u16], marks:
 }
 
 // A run of the core, of at most `limit` steps.
-#[unsafe(no_mangle)]
-pub extern "C" fn nilguseg_run(
-    core: &mut [u16; 12],
-    memory: &mut [u16],
-    marks: &mut [u8],
-    limit: u32,
-) -> u64
+pub fn nilguseg_run(core: &mut [u16; 12], memory: &mut [u16], marks: &mut [u8], limit: u32) -> u64
     ensures { call result (core.new ∷ memory.new ∷ marks.new ∷ []) ≡ run_call (run_of plan_of (core_from core.old) (lent memory.old marks.old) limit) }
 {
     let run = core_of(*core).run(memory, marks, limit);
@@ -50,12 +43,7 @@ pub extern "C" fn nilguseg_run(
 }
 
 // Loads a plain word list.
-#[unsafe(no_mangle)]
-pub extern "C" fn nilguseg_load_words(
-    core: &mut [u16; 12],
-    words: &[u16],
-    memory: &mut [u16],
-) -> u32
+pub fn nilguseg_load_words(core: &mut [u16; 12], words: &[u16], memory: &mut [u16]) -> u32
     ensures { call result (core.new ∷ memory.new ∷ []) ≡ load_call (load_words_of words.now memory.old) }
 {
     let load = load_words(words, memory);
@@ -66,12 +54,7 @@ pub extern "C" fn nilguseg_load_words(
 }
 
 // Loads a rule sheet.
-#[unsafe(no_mangle)]
-pub extern "C" fn nilguseg_load_sheet(
-    core: &mut [u16; 12],
-    sheet: &[u32],
-    memory: &mut [u16],
-) -> u32
+pub fn nilguseg_load_sheet(core: &mut [u16; 12], sheet: &[u32], memory: &mut [u16]) -> u32
     ensures { call result (core.new ∷ memory.new ∷ []) ≡ load_call (load_sheet_of sheet.now memory.old) }
 {
     let load = load_sheet(sheet, memory);
@@ -82,24 +65,21 @@ pub extern "C" fn nilguseg_load_sheet(
 }
 
 // Writes the rule sheet of a core and memory.
-#[unsafe(no_mangle)]
-pub extern "C" fn nilguseg_write_sheet(core: &[u16; 12], memory: &[u16], sheet: &mut [u32]) -> u64
+pub fn nilguseg_write_sheet(core: &[u16; 12], memory: &[u16], sheet: &mut [u32]) -> u64
     ensures { call result (sheet.new ∷ []) ≡ write_call (write_sheet_of (core_from core.now) memory.now sheet.old) }
 {
     written_number(write_sheet(core_of(*core), memory, sheet))
 }
 
 // Which of two word lists comes first.
-#[unsafe(no_mangle)]
-pub extern "C" fn nilguseg_compare(first: &[u16], second: &[u16]) -> u32
+pub fn nilguseg_compare(first: &[u16], second: &[u16]) -> u32
     ensures { result ≡ order_number (order_of first.now second.now) }
 {
     order_number(compare(first, second))
 }
 
 // The part of the earlier list from the first place where they differ on.
-#[unsafe(no_mangle)]
-pub extern "C" fn nilguseg_earlier<'a>(first: &'a [u16], second: &'a [u16], from: &mut usize) -> u32
+pub fn nilguseg_earlier<'a>(first: &'a [u16], second: &'a [u16], from: &mut usize) -> u32
     ensures { call result ((from.new ∷ []) ∷ []) ≡ part_call (part_of first.now second.now) }
 {
     let part = earlier_part(first, second);

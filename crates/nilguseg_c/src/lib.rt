@@ -1,0 +1,80 @@
+// What C and Rust hosts call to load, run and write, and to compare word lists: each export is the function of `nilguseg` of its name, with its
+// clauses. A slice is a pointer and then a length, an array a pointer.
+#![tactic(auto)]
+
+ghost use Rattle.std.specs.Prelude.{◌≡◌, [], ◌∷◌};
+ghost use Rattle.emulator.specs.Memory.{lent};
+ghost use Rattle.emulator.specs.Machine.{plan_of, step_of, run_of};
+ghost use Rattle.order.specs.Order.{order_of, part_of};
+ghost use Rattle.sheet.specs.Load.{load_words_of, load_sheet_of};
+ghost use Rattle.sheet.specs.Write.{write_sheet_of};
+ghost use Rattle.nilguseg.specs.Host.{core_from, call, step_call, run_call, load_call, write_call, order_number, part_call};
+
+// One step of the core.
+#[unsafe(no_mangle)]
+pub extern "C" fn nilguseg_step(core: &mut [u16; 12], memory: &mut [u16], marks: &mut [u8]) -> u32
+    ensures { call result (core.new ∷ memory.new ∷ marks.new ∷ []) ≡ step_call (step_of plan_of (core_from core.old) (lent memory.old marks.old)) }
+{
+    nilguseg::nilguseg_step(core, memory, marks)
+}
+
+// A run of the core, of at most `limit` steps.
+#[unsafe(no_mangle)]
+pub extern "C" fn nilguseg_run(
+    core: &mut [u16; 12],
+    memory: &mut [u16],
+    marks: &mut [u8],
+    limit: u32,
+) -> u64
+    ensures { call result (core.new ∷ memory.new ∷ marks.new ∷ []) ≡ run_call (run_of plan_of (core_from core.old) (lent memory.old marks.old) limit) }
+{
+    nilguseg::nilguseg_run(core, memory, marks, limit)
+}
+
+// Loads a plain word list.
+#[unsafe(no_mangle)]
+pub extern "C" fn nilguseg_load_words(
+    core: &mut [u16; 12],
+    words: &[u16],
+    memory: &mut [u16],
+) -> u32
+    ensures { call result (core.new ∷ memory.new ∷ []) ≡ load_call (load_words_of words.now memory.old) }
+{
+    nilguseg::nilguseg_load_words(core, words, memory)
+}
+
+// Loads a rule sheet.
+#[unsafe(no_mangle)]
+pub extern "C" fn nilguseg_load_sheet(
+    core: &mut [u16; 12],
+    sheet: &[u32],
+    memory: &mut [u16],
+) -> u32
+    ensures { call result (core.new ∷ memory.new ∷ []) ≡ load_call (load_sheet_of sheet.now memory.old) }
+{
+    nilguseg::nilguseg_load_sheet(core, sheet, memory)
+}
+
+// Writes the rule sheet of a core and memory.
+#[unsafe(no_mangle)]
+pub extern "C" fn nilguseg_write_sheet(core: &[u16; 12], memory: &[u16], sheet: &mut [u32]) -> u64
+    ensures { call result (sheet.new ∷ []) ≡ write_call (write_sheet_of (core_from core.now) memory.now sheet.old) }
+{
+    nilguseg::nilguseg_write_sheet(core, memory, sheet)
+}
+
+// Which of two word lists comes first.
+#[unsafe(no_mangle)]
+pub extern "C" fn nilguseg_compare(first: &[u16], second: &[u16]) -> u32
+    ensures { result ≡ order_number (order_of first.now second.now) }
+{
+    nilguseg::nilguseg_compare(first, second)
+}
+
+// The part of the earlier list from the first place where they differ on.
+#[unsafe(no_mangle)]
+pub extern "C" fn nilguseg_earlier<'a>(first: &'a [u16], second: &'a [u16], from: &mut usize) -> u32
+    ensures { call result ((from.new ∷ []) ∷ []) ≡ part_call (part_of first.now second.now) }
+{
+    nilguseg::nilguseg_earlier(first, second, from)
+}
