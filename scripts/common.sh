@@ -1,7 +1,7 @@
 # Sourced by the scripts beside it: settings, and what to do where something is missing.
 #
 # NILGUSEG_LIB        a folder with the library's parts, libnilguseg.a and the three others; by default target/staticlib, built by
-#                     `rt staticlib`
+#                     scripts/staticlib
 # DELTA_NULL_SOURCES  a folder with the published Rust; by default ../shared/docs
 
 absolute() { [ -z "$1" ] || realpath -m "$1"; }
@@ -29,10 +29,10 @@ parts="nilguseg nilguseg_words nilguseg_log nilguseg_replay"
 # Builds the library's parts unless a folder with them was given.
 need_library() {
     local part
+    if [ -z "$library_given" ] && have rt; then
+        scripts/staticlib
+    fi
     for part in $parts; do
-        if [ -z "$library_given" ] && have rt; then
-            rt staticlib $part
-        fi
         [ -f "$NILGUSEG_LIB/lib$part.a" ] || skip_all "all, for there is no lib$part.a in $NILGUSEG_LIB, nor rt to build it"
     done
 }
