@@ -15,7 +15,7 @@ pub fn step_lent(core: &mut Core, memory: &mut [u16], marks: &mut [u8]) -> Answe
     s.answer
 }
 
-// The same for callers that hold the core by value: no reference to a core is in the signature, so their proofs need no walk by hand.
+// The same for callers that hold the core by value.
 pub fn step_by_lent(core: Core, memory: &mut [u16], marks: &mut [u8]) -> Step
     ensures { turn (answer_of result.answer) result.core (lent memory.new marks.new) ≡ step_of plan_of core (lent memory.old marks.old) }
 {

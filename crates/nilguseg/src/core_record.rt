@@ -1,5 +1,4 @@
-// The core record as twelve words: r0 to r7, ip, rp, sp, ef. A host's struct `nilguseg_core` is just these, without padding; a struct
-// behind a reference would need its proof walked by hand.
+// The core record as twelve words: r0 to r7, ip, rp, sp, ef. A host's struct `nilguseg_core` is just these, without padding.
 ghost use Rattle.std.specs.Prelude.{◌≡◌};
 ghost use Rattle.nilguseg.specs.Host.{core_from, words_of};
 
