@@ -1,5 +1,5 @@
 -- Laws of an access and of a cycle: one for each way through the code.
-use Rattle.std.specs.Prelude.{◌≡◌, ℕ, List, [], ◌∷◌, ◌++◌}
+use Rattle.std.specs.Prelude.{◌≡◌, ℕ, List, [], ◌∷◌, ◌++◌, Result, Ok, Err}
 use mathlib.Core.Path.{refl, ap}
 use denote.Enum.Declared.{tag_of}
 use types.Run.{OneOf, miss}
@@ -11,7 +11,7 @@ use Rattle.execute.specs.declared.effect.Effect.{Effect}
 use Rattle.execute.specs.declared.effect.Effect.TheVariants as effect
 use Rattle.instructions.specs.Decoding.{decode_of}
 use Rattle.instructions.specs.declared.ins.Instruction.{Instruction}
-use Rattle.instructions.specs.declared.ins.encoding.Decoded.{Decoded}
+use Rattle.instructions.specs.declared.ins.encoding.Undecodable.{Undecodable}
 use Rattle.instructions.specs.declared.reg.GeneralPurposeRegister.{GeneralPurposeRegister}
 use Rattle.emulator.specs.Core.{core_of}
 use Rattle.emulator.specs.Log.{entry_of, reply_log, Logged, logged}
@@ -74,14 +74,14 @@ reads_logged ip w (Reply.Word a v) = refl
 reads_logged ip w (Reply.Stopped s) = refl
 
 -- a word obeyed, by its decoding
-module _ (gprs : List ℕ) (ip rp sp ef : ℕ) (w : ℕ) (m : Memory) {d : Decoded} (a : d ≡ decode_of w) where
-  pub obey_undecodable : {v : ℕ} {t : Applied} → d ≡ Decoded.Undecodable v → t ≡ off ip rp sp ef (stop.Undecodable v)
+module _ (gprs : List ℕ) (ip rp sp ef : ℕ) (w : ℕ) (m : Memory) {d : Result Instruction Undecodable} (a : d ≡ decode_of w) where
+  pub obey_undecodable : {v : Undecodable} {t : Applied} → d ≡ Err v → t ≡ off ip rp sp ef (stop.Undecodable v.word)
       → logged (turn_of (left t gprs) m) [] ≡ carry_out memory_store (plan_of (core_of gprs ip rp sp ef) w) m
   unfolding plan_of
   obey_undecodable u h = rw (← a, u, h)
 
   pub obey_decoded : (t : Applied) {i : Instruction} {e : Effect} {x : Reply} {m' : Memory} {gprs' : List ℕ}
-      → d ≡ Decoded.Ins i → e ≡ execute_of (registers gprs ip rp sp ef) i w
+      → d ≡ Ok i → e ≡ execute_of (registers gprs ip rp sp ef) i w
       → accessed x m' ≡ make_of memory_store (access_of e) m
       → left t gprs' ≡ applied gprs ip rp sp ef e x
       → logged (turn_of (left t gprs') m') (reply_log x) ≡ carry_out memory_store (plan_of (core_of gprs ip rp sp ef) w) m

@@ -1,8 +1,9 @@
 -- One step and the run (document 01), with its log (document 02, CR 2). What an instruction does, what an access does and what a run does
 -- stand apart: an access and a run see an instruction only through its plan.
-use Rattle.std.specs.Prelude.{ℕ, zero, suc, ◌+◌, Bool, true, false, List, [], ◌++◌, length, replicate, ◌==◌, nat_eq, if◌then◌else◌}
+use Rattle.std.specs.Prelude.{ℕ, zero, suc, ◌+◌, Bool, true, false, List, [], ◌++◌, length, replicate, ◌==◌, nat_eq, if◌then◌else◌, Result, Ok, Err}
 use Rattle.instructions.specs.Decoding.{decode_of}
-use Rattle.instructions.specs.declared.ins.encoding.Decoded.{Decoded}
+use Rattle.instructions.specs.declared.ins.Instruction.{Instruction}
+use Rattle.instructions.specs.declared.ins.encoding.Undecodable.{Undecodable}
 use Rattle.instructions.specs.declared.reg.GeneralPurposeRegister.{GeneralPurposeRegister}
 use Rattle.instructions.specs.declared.reg.SpecialPurposeRegister.TheVariants.{IP, RP, SP, EF}
 use Rattle.execute.specs.Execute.{execute_of}
@@ -69,11 +70,11 @@ pub record Plan : Type 0 where
 abbrev pub planned : Core → Access → Plan
 planned c x = record { core = c; access = x }
 
-abbrev pub decoded_plan : Core → ℕ → Decoded → Plan
-decoded_plan c w (Decoded.Ins i) =
+abbrev pub decoded_plan : Core → ℕ → Result Instruction Undecodable → Plan
+decoded_plan c w (Ok i) =
     let e = execute_of (registers c.gprs c.ip c.rp c.sp c.ef) i w in
     planned (after_of c e) (access_of e)
-decoded_plan c w (Decoded.Undecodable v) = planned c (stop (stops.Undecodable v))
+decoded_plan c w (Err e) = planned c (stop (stops.Undecodable e.word))
 
 -- decode, execute: the plan of the word w, once ip is advanced
 unfoldable pub plan_of : Core → ℕ → Plan

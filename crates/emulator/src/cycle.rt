@@ -14,7 +14,7 @@ use crate::log::{Reads, is_full, log_reads, reads_of};
 use crate::memory::{Read, Write, fetch_word, read_word, write_word};
 use crate::stop::Stop;
 use execute::{Effect, execute};
-use instructions::{Decoded, Instruction};
+use instructions::Instruction;
 
 // How a run ends. `Refused` has the number of the host test, `Log` that of an end by the log: 30, fewer than four of its words are free, or
 // 31, a replay's reads aren't its words.
@@ -91,11 +91,11 @@ fn obey(
     ensures { logged (turn (progress_of result.applied.progress) (core_of gprs.new result.applied.ip result.applied.rp result.applied.sp result.applied.ef) (lent memory.new marks.new)) (reply_log result.reply) ≡ carry_out memory_store (plan_of (core_of gprs.old ip rp sp ef) word) (lent memory.old marks.old) }
 {
     match Instruction::decode(word) {
-        Decoded::Undecodable(w) => Obeyed {
-            applied: faulted(ip, rp, sp, ef, Stop::Undecodable(w)),
+        Err(e) => Obeyed {
+            applied: faulted(ip, rp, sp, ef, Stop::Undecodable(e.word)),
             reply: Reply::Done,
         },
-        Decoded::Ins(ins) => {
+        Ok(ins) => {
             let effect = execute(ins, word, gprs, ip, rp, sp, ef);
             let reply = access(effect, memory, marks);
             let applied = apply(effect, reply, gprs, ip, rp, sp, ef);

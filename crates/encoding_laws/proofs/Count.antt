@@ -4,8 +4,10 @@ use mathlib.Core.List.{List}
 use mathlib.Core.Path.{◌≡◌, ◌∙◌, refl, ap}
 use Prim.Native.Nat.{ℕ, ◌+◌, ◌*◌}
 use lib.ListN.{replicate}
+use Rattle.std.specs.Prelude.{Result}
 use Rattle.instructions.specs.Decoding.{decode_of, decode_bytes}
-use Rattle.instructions.specs.declared.ins.encoding.Decoded.{Decoded}
+use Rattle.instructions.specs.declared.ins.Instruction.{Instruction}
+use Rattle.instructions.specs.declared.ins.encoding.Undecodable.{Undecodable}
 use Rattle.encoding_laws.specs.Count.{over, count, kinds_below, kinds_of_all, sum, Count}
 use Rattle.encoding_laws.proofs.Inverse.{bytes}
 use Rattle.encoding_laws.proofs.Table.{by_rows, over_same}
@@ -23,7 +25,7 @@ kinds =
     by_rows (λ w. count (decode_of w)) 256 256 (replicate 43 0) ∙
     over_same (λ h. over (λ l. count (decode_of (h * 256 + l))) 256) (λ h. over (by_bytes h) 256) 256 (replicate 43 0)
     (λ h _ y. over_same (λ l. count (decode_of (h * 256 + l))) (by_bytes h) 256 y
-    (λ l s z. ap (λ (d : Decoded). count d z) (bytes h l (h * 256 + l) refl s))) ∙
+    (λ l s z. ap (λ (d : Result Instruction Undecodable). count d z) (bytes h l (h * 256 + l) refl s))) ∙
     computed
 
 pub counted : Count

@@ -5,24 +5,24 @@ use mathlib.Core.Bool.{Bool}
 use Prim.Native.Nat.{ℕ, ◌+◌, ◌*◌, ◌/◌, ◌%◌, ◌<◌}
 use native.Mathlib.Omega.{arith}
 use lib.Dec.{T, eqb, eqb→eq}
+use Rattle.std.specs.Prelude.{Result, Ok, Err}
 use Rattle.instructions.specs.Encoding.{encode_of}
 use Rattle.encoding_laws.specs.Reduced.{byte_of, reduced}
 use Rattle.instructions.specs.Reg.{gpr_number, gpr_at}
 use Rattle.instructions.specs.declared.reg.GeneralPurposeRegister.{GeneralPurposeRegister}
 use Rattle.instructions.specs.declared.ins.Instruction.TheVariants.{Nop, Hlt, Mov, DMov, Putl, Puth, Read, Write, Spread, Spwrite, DRead, DWrite, Push, Pop, Movso, Movsi, Spadd, Spinc, Spdec, Not, And, Booland, Or, Xor, Shl, Shr, Bitset, Neg, Inc, Dec, Add, Sub, Mul, Inv, Eqz, Eq, Gt, Gteq, Jmpoff, Cjmpoff, Cjmp, Call, Ret}
 use borrow.Author.Tests.{lt-ltb, le-ltb}
-use Rattle.instructions.specs.Decoding.{decode_of, decode_bytes}
+use Rattle.instructions.specs.Decoding.{decode_of, decode_bytes, no_instruction}
 use Rattle.instructions.proofs.RegLaws.{Sort, general, special, decimal, gpr_at_lem, gpr_below}
 use Rattle.instructions.specs.declared.ins.Instruction.{Instruction}
-use Rattle.instructions.specs.declared.ins.encoding.Decoded.{Decoded}
-use Rattle.instructions.specs.declared.ins.encoding.Decoded.TheVariants.{Ins, Undecodable}
+use Rattle.instructions.specs.declared.ins.encoding.Undecodable.{Undecodable}
 use Rattle.encoding_laws.specs.Inverse.{Inverse}
 use Rattle.encoding_laws.proofs.Table.{every, at}
 
 -- the answer leads back to the word
-abbrev back : ℕ → Decoded → Bool
-back w (Ins i) = eqb (encode_of i) w
-back w (Undecodable v) = eqb v w
+abbrev back : ℕ → Result Instruction Undecodable → Bool
+back w (Ok i) = eqb (encode_of i) w
+back w (Err e) = eqb e.word w
 
 abbrev back_at : ℕ → ℕ → Bool
 back_at h l = back (h * 256 + l) (decode_bytes (h * 256 + l) h l)
@@ -41,12 +41,12 @@ back_word w h =
     subst (λ (v : ℕ). T (back v (decode_bytes v (w / 256) (w % 256)))) e (back_at_lem (w / 256) (w % 256) (omega arith) (omega arith))
 
 -- a word that decodes is the encoding of what it decodes to
-encode_decode : (w : ℕ) → w < 65536 → (i : Instruction) → decode_of w ≡ Ins i → encode_of i ≡ w
-encode_decode w h i e = eqb→eq (encode_of i) w (subst (λ (d : Decoded). T (back w d)) e (back_word w h))
+encode_decode : (w : ℕ) → w < 65536 → (i : Instruction) → decode_of w ≡ Ok i → encode_of i ≡ w
+encode_decode w h i e = eqb→eq (encode_of i) w (subst (λ (d : Result Instruction Undecodable). T (back w d)) e (back_word w h))
 
 -- a word that does not is undecodable, with that word
-undecodable : (w : ℕ) → w < 65536 → (v : ℕ) → decode_of w ≡ Undecodable v → v ≡ w
-undecodable w h v e = eqb→eq v w (subst (λ (d : Decoded). T (back w d)) e (back_word w h))
+undecodable : (w : ℕ) → w < 65536 → (v : ℕ) → decode_of w ≡ no_instruction v → v ≡ w
+undecodable w h v e = eqb→eq v w (subst (λ (d : Result Instruction Undecodable). T (back w d)) e (back_word w h))
 
 -- the upper and the lower byte of a word
 pub bytes : (h l w : ℕ) → w ≡ h * 256 + l → l < 256 → decode_of w ≡ decode_bytes w h l
@@ -57,28 +57,28 @@ bytes h l w e s =
     rw (eh, el)
 
 -- an instruction of one register, and of two
-ones : {R : Type 0} (s : Sort R) (k : R → Instruction) → s.values (λ q. decode_of (encode_of (k q))) ≡ s.values (λ q. Ins (k q)) → (q : R) → decode_of (encode_of (k q)) ≡ Ins (k q)
-ones s k e = s.equal (λ q. decode_of (encode_of (k q))) (λ q. Ins (k q)) e
+ones : {R : Type 0} (s : Sort R) (k : R → Instruction) → s.values (λ q. decode_of (encode_of (k q))) ≡ s.values (λ q. Ok (k q)) → (q : R) → decode_of (encode_of (k q)) ≡ Ok (k q)
+ones s k e = s.equal (λ q. decode_of (encode_of (k q))) (λ q. Ok (k q)) e
 
 pairs : {P Q : Type 0} (s : Sort P) (t : Sort Q) (k : P → Q → Instruction)
-    → s.values (λ p. t.values (λ q. decode_of (encode_of (k p q)))) ≡ s.values (λ p. t.values (λ q. Ins (k p q)))
-    → (p : P) (q : Q) → decode_of (encode_of (k p q)) ≡ Ins (k p q)
-pairs s t k e p = ones t (k p) (s.equal (λ p. t.values (λ q. decode_of (encode_of (k p q)))) (λ p. t.values (λ q. Ins (k p q))) e p)
+    → s.values (λ p. t.values (λ q. decode_of (encode_of (k p q)))) ≡ s.values (λ p. t.values (λ q. Ok (k p q)))
+    → (p : P) (q : Q) → decode_of (encode_of (k p q)) ≡ Ok (k p q)
+pairs s t k e p = ones t (k p) (s.equal (λ p. t.values (λ q. decode_of (encode_of (k p q)))) (λ p. t.values (λ q. Ok (k p q))) e p)
 
-putl : (r : GeneralPurposeRegister) (imm : ℕ) → imm < 256 → decode_of (encode_of (Putl r imm)) ≡ Ins (Putl r imm)
+putl : (r : GeneralPurposeRegister) (imm : ℕ) → imm < 256 → decode_of (encode_of (Putl r imm)) ≡ Ok (Putl r imm)
 putl r imm h =
     bytes (0x10 + gpr_number r) imm _ (omega arith) h ∙
-    general.equal (λ r. decode_bytes (encode_of (Putl r imm)) (0x10 + gpr_number r) imm) (λ r. Ins (Putl r imm)) refl r
+    general.equal (λ r. decode_bytes (encode_of (Putl r imm)) (0x10 + gpr_number r) imm) (λ r. Ok (Putl r imm)) refl r
 
-puth : (r : GeneralPurposeRegister) (imm : ℕ) → imm < 256 → decode_of (encode_of (Puth r imm)) ≡ Ins (Puth r imm)
+puth : (r : GeneralPurposeRegister) (imm : ℕ) → imm < 256 → decode_of (encode_of (Puth r imm)) ≡ Ok (Puth r imm)
 puth r imm h =
     bytes (0x18 + gpr_number r) imm _ (omega arith) h ∙
-    general.equal (λ r. decode_bytes (encode_of (Puth r imm)) (0x18 + gpr_number r) imm) (λ r. Ins (Puth r imm)) refl r
+    general.equal (λ r. decode_bytes (encode_of (Puth r imm)) (0x18 + gpr_number r) imm) (λ r. Ok (Puth r imm)) refl r
 
 high : (r : GeneralPurposeRegister) → gpr_at (8 + gpr_number r) ≡ r
 high r = general.equal (λ r. gpr_at (8 + gpr_number r)) (λ r. r) refl r
 
-spread : (r : GeneralPurposeRegister) (offset : ℕ) → decode_of (encode_of (Spread r offset)) ≡ Ins (Spread r (offset % 16))
+spread : (r : GeneralPurposeRegister) (offset : ℕ) → decode_of (encode_of (Spread r offset)) ≡ Ok (Spread r (offset % 16))
 spread r offset =
     let s = gpr_below r in
     let lo : ℕ = gpr_number r * 16 + offset % 16 in
@@ -87,7 +87,7 @@ spread r offset =
     bytes 0x30 lo (encode_of (Spread r offset)) (omega arith) (omega arith) ∙
     simp (lt-ltb lo 0x80 (omega arith), ep, eo, gpr_at_lem r)
 
-spwrite : (r : GeneralPurposeRegister) (offset : ℕ) → decode_of (encode_of (Spwrite offset r)) ≡ Ins (Spwrite (offset % 16) r)
+spwrite : (r : GeneralPurposeRegister) (offset : ℕ) → decode_of (encode_of (Spwrite offset r)) ≡ Ok (Spwrite (offset % 16) r)
 spwrite r offset =
     let s = gpr_below r in
     let lo : ℕ = 0x80 + gpr_number r * 16 + offset % 16 in
@@ -97,7 +97,7 @@ spwrite r offset =
     simp (le-ltb lo 0x80 (omega arith), ep, eo, high r)
 
 -- an instruction is what its word decodes to, but for a spread or spwrite offset above 15
-decode_encode : (i : Instruction) → byte_of i < 256 → decode_of (encode_of i) ≡ Ins (reduced i)
+decode_encode : (i : Instruction) → byte_of i < 256 → decode_of (encode_of i) ≡ Ok (reduced i)
 unfolding decode_of
 decode_encode Nop h = refl
 decode_encode Hlt h = refl

@@ -1,9 +1,9 @@
 -- How many words decode, and to which kinds (document 01, Words).
-use Rattle.std.specs.Prelude.{List, [], ◌∷◌, ◌≡◌, ℕ, zero, suc, ◌+◌, replicate}
+use Rattle.std.specs.Prelude.{List, [], ◌∷◌, ◌≡◌, ℕ, zero, suc, ◌+◌, replicate, Result, Ok, Err}
 use Rattle.instructions.specs.Decoding.{decode_of}
 use Rattle.instructions.specs.declared.ins.Instruction.{Instruction}
 use Rattle.instructions.specs.declared.ins.Instruction.TheVariants.{Nop, Hlt, Mov, DMov, Putl, Puth, Read, Write, Spread, Spwrite, DRead, DWrite, Push, Pop, Movso, Movsi, Spadd, Spinc, Spdec, Not, And, Booland, Or, Xor, Shl, Shr, Bitset, Neg, Inc, Dec, Add, Sub, Mul, Inv, Eqz, Eq, Gt, Gteq, Jmpoff, Cjmpoff, Cjmp, Call, Ret}
-use Rattle.instructions.specs.declared.ins.encoding.Decoded.{Decoded}
+use Rattle.instructions.specs.declared.ins.encoding.Undecodable.{Undecodable}
 
 -- the numbers below n, taken in one after another
 abbrev pub over : {A : Type 0} → (ℕ → A → A) → ℕ → A → A
@@ -62,9 +62,9 @@ more k [] = []
 more zero (n ∷ ns) = suc n ∷ ns
 more (suc k) (n ∷ ns) = n ∷ more k ns
 
-abbrev pub count : Decoded → List ℕ → List ℕ
-count (Decoded.Ins i) ns = more (kind_of i) ns
-count (Decoded.Undecodable w) ns = ns
+abbrev pub count : Result Instruction Undecodable → List ℕ → List ℕ
+count (Ok i) ns = more (kind_of i) ns
+count (Err e) ns = ns
 
 -- how many of the words below n decode to each kind
 unfoldable pub kinds_below : ℕ → List ℕ

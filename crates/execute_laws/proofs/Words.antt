@@ -1,5 +1,6 @@
 -- An instruction that sees 16-bit words leaves 16-bit words.
 use Prim.Native.Nat.{ℕ, ◌-◌, ◌/◌, ◌%◌, ◌^◌, ◌<◌}
+use Rattle.std.specs.Prelude.{Result, Ok, Err}
 use mathlib.Core.Bool.{Bool, true, false, not}
 use mathlib.Core.Path.{subst}
 use native.Mathlib.Nat.{lt_of_le_of_lt}
@@ -10,12 +11,13 @@ use lib.Pow.{shr_le}
 use borrow.Author.Tests.{ltb-true}
 use Rattle.opcode.specs.Opcode.{opcode_of}
 use Rattle.opcode.specs.declared.InstructionOpcode.{InstructionOpcode}
-use Rattle.opcode.specs.declared.InstructionOpcode.TheVariants.{Undecodable, Nop, Hlt, Mov, DMov, Putl, Puth, Read, Write, Spread, Spwrite, DRead, DWrite, Push, Pop, Movso, Movsi, Spadd, Spinc, Spdec, Not, And, Booland, Or, Xor, Shl, Shr, Bitset, Neg, Inc, Dec, Add, Sub, Mul, Inv, Eqz, Eq, Gt, Gteq, Jmpoff, Cjmpoff, Cjmp, Call, Ret}
+use Rattle.opcode.specs.declared.InstructionOpcode.TheVariants.{Nop, Hlt, Mov, DMov, Putl, Puth, Read, Write, Spread, Spwrite, DRead, DWrite, Push, Pop, Movso, Movsi, Spadd, Spinc, Spdec, Not, And, Booland, Or, Xor, Shl, Shr, Bitset, Neg, Inc, Dec, Add, Sub, Mul, Inv, Eqz, Eq, Gt, Gteq, Jmpoff, Cjmpoff, Cjmp, Call, Ret}
 use Rattle.instructions.specs.Decoding.{operands_of, decode_of}
 use Rattle.instructions.specs.Reg.{gpr_at, spr_at}
 use Rattle.instructions.specs.declared.reg.SpecialPurposeRegister.{SpecialPurposeRegister}
 use Rattle.instructions.specs.declared.reg.SpecialPurposeRegister.TheVariants.{IP, RP, SP, EF}
-use Rattle.instructions.specs.declared.ins.encoding.Decoded.{Decoded}
+use Rattle.instructions.specs.declared.ins.Instruction.{Instruction}
+use Rattle.instructions.specs.declared.ins.encoding.Undecodable.{Undecodable}
 use Rattle.execute.specs.Execute.{execute_of, to_spr, to_cond, amount_below16, if_cond}
 use Rattle.execute.specs.Flags.{cond_of}
 use Rattle.execute.specs.Registers.{Registers, gpr, spr}
@@ -61,9 +63,9 @@ amount : (k : ℕ) (e : Effect) → (k < 16 → EffectFits e) → EffectFits (am
 amount k e f = if_elim EffectFits (ltb k 16) (λ t. f (ltb-true _ _ t)) (λ _. tt)
 
 -- the claim, of what a word decodes to
-abbrev Fits : Registers → ℕ → Decoded → Type 0
-Fits r w (Decoded.Ins i) = EffectFits (execute_of r i w)
-Fits r w (Decoded.Undecodable v) = Unit {0}
+abbrev Fits : Registers → ℕ → Result Instruction Undecodable → Type 0
+Fits r w (Ok i) = EffectFits (execute_of r i w)
+Fits r w (Err e) = Unit {0}
 
 -- each opcode with the bytes hi and lo; of a word, lo is below 256
 module _ (r : Registers) (fit : RegistersFit r) (w hi lo : ℕ) (byte : lo < 256) where
@@ -88,7 +90,7 @@ module _ (r : Registers) (fit : RegistersFit r) (w hi lo : ℕ) (byte : lo < 256
 
   row : (o : InstructionOpcode) → Fits r w (operands_of o w hi lo)
   unfolding execute_of
-  row Undecodable = tt
+  row InstructionOpcode.Undecodable = tt
   row Nop = tt
   row Hlt = with_bit_lem 0 true fit.ef (omega arith)
   row Mov = fit.gprs _

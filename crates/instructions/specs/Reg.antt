@@ -1,14 +1,11 @@
 -- The registers' numbers (document 01, Records).
-use Rattle.std.specs.Prelude.{ℕ, ◌%◌, [], ◌∷◌, ltb, get_or, if◌then◌else◌}
+use Rattle.std.specs.Prelude.{ℕ, ◌%◌, [], ◌∷◌, ltb, get_or, if◌then◌else◌, Option, Some, None}
 use Rattle.instructions.specs.declared.reg.GeneralPurposeRegister.{GeneralPurposeRegister}
 use Rattle.instructions.specs.declared.reg.GeneralPurposeRegister.TheVariants.{R0, R1, R2, R3, R4, R5, R6, R7}
-use Rattle.instructions.specs.declared.reg.DecodedGPR.{DecodedGPR}
 use Rattle.instructions.specs.declared.reg.SpecialPurposeRegister.{SpecialPurposeRegister}
 use Rattle.instructions.specs.declared.reg.SpecialPurposeRegister.TheVariants.{IP, RP, SP, EF}
-use Rattle.instructions.specs.declared.reg.DecodedSPR.{DecodedSPR}
 use Rattle.instructions.specs.declared.reg.DecimalRegister.{DecimalRegister}
 use Rattle.instructions.specs.declared.reg.DecimalRegister.TheVariants.{D0, D1, D2, D3}
-use Rattle.instructions.specs.declared.reg.DecodedDR.{DecodedDR}
 
 abbrev pub gpr_number : GeneralPurposeRegister → ℕ
 gpr_number R0 = 0
@@ -24,8 +21,8 @@ gpr_number R7 = 7
 abbrev pub gpr_at : ℕ → GeneralPurposeRegister
 gpr_at n = get_or (R0 ∷ R1 ∷ R2 ∷ R3 ∷ R4 ∷ R5 ∷ R6 ∷ R7 ∷ []) (n % 8) R7
 
-abbrev pub gpr_decode_of : ℕ → DecodedGPR
-gpr_decode_of n = if ltb n 8 then DecodedGPR.Register (gpr_at n) else DecodedGPR.Nothing
+abbrev pub gpr_decode_of : ℕ → Option GeneralPurposeRegister
+gpr_decode_of n = if ltb n 8 then Some (gpr_at n) else None
 
 abbrev pub spr_number : SpecialPurposeRegister → ℕ
 spr_number IP = 0
@@ -37,8 +34,8 @@ spr_number EF = 3
 abbrev pub spr_at : ℕ → SpecialPurposeRegister
 spr_at n = get_or (IP ∷ RP ∷ SP ∷ EF ∷ []) (n % 4) EF
 
-abbrev pub spr_decode_of : ℕ → DecodedSPR
-spr_decode_of n = if ltb n 4 then DecodedSPR.Register (spr_at n) else DecodedSPR.Nothing
+abbrev pub spr_decode_of : ℕ → Option SpecialPurposeRegister
+spr_decode_of n = if ltb n 4 then Some (spr_at n) else None
 
 abbrev pub dr_number : DecimalRegister → ℕ
 dr_number D0 = 0
@@ -50,5 +47,5 @@ dr_number D3 = 3
 abbrev pub dr_at : ℕ → DecimalRegister
 dr_at n = get_or (D0 ∷ D1 ∷ D2 ∷ D3 ∷ []) (n % 4) D3
 
-abbrev pub dr_decode_of : ℕ → DecodedDR
-dr_decode_of n = if ltb n 4 then DecodedDR.Register (dr_at n) else DecodedDR.Nothing
+abbrev pub dr_decode_of : ℕ → Option DecimalRegister
+dr_decode_of n = if ltb n 4 then Some (dr_at n) else None

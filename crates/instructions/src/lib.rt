@@ -5,5 +5,5 @@ mod ins;
 mod reg;
 
 pub use ins::Instruction;
-pub use ins::encoding::Decoded;
-pub use reg::{DR, DecodedDR, DecodedGPR, DecodedSPR, GPR, SPR};
+pub use ins::encoding::Undecodable;
+pub use reg::{DR, GPR, SPR};

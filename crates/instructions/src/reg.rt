@@ -17,13 +17,6 @@ pub enum GeneralPurposeRegister {
 
 pub type GPR = GeneralPurposeRegister;
 
-// What a general register's number stands for.
-#[derive(Clone, Copy)]
-pub enum DecodedGPR {
-    Register(GPR),
-    Nothing,
-}
-
 #[derive(Clone, Copy)]
 pub enum SpecialPurposeRegister {
     IP,
@@ -34,13 +27,6 @@ pub enum SpecialPurposeRegister {
 
 pub type SPR = SpecialPurposeRegister;
 
-// What a special register's number stands for.
-#[derive(Clone, Copy)]
-pub enum DecodedSPR {
-    Register(SPR),
-    Nothing,
-}
-
 #[derive(Clone, Copy)]
 pub enum DecimalRegister {
     D0,
@@ -50,13 +36,6 @@ pub enum DecimalRegister {
 }
 
 pub type DR = DecimalRegister;
-
-// What a decimal register's number stands for.
-#[derive(Clone, Copy)]
-pub enum DecodedDR {
-    Register(DR),
-    Nothing,
-}
 
 impl GeneralPurposeRegister {
     // The register's number, as `r1` has 1.
@@ -81,13 +60,13 @@ impl GeneralPurposeRegister {
         }
     }
 
-    pub fn decode(bits: u16) -> DecodedGPR
+    pub fn decode(bits: u16) -> Option<GPR>
         ensures { result ≡ gpr_decode_of bits }
     {
         if bits < 8 {
-            DecodedGPR::Register(GPR::from_low_bits(bits as u8))
+            Some(GPR::from_low_bits(bits as u8))
         } else {
-            DecodedGPR::Nothing
+            None
         }
     }
 
@@ -120,13 +99,13 @@ impl SpecialPurposeRegister {
         }
     }
 
-    pub fn decode(bits: u16) -> DecodedSPR
+    pub fn decode(bits: u16) -> Option<SPR>
         ensures { result ≡ spr_decode_of bits }
     {
         if bits < 4 {
-            DecodedSPR::Register(SPR::from_low_bits(bits as u8))
+            Some(SPR::from_low_bits(bits as u8))
         } else {
-            DecodedSPR::Nothing
+            None
         }
     }
 
@@ -155,13 +134,13 @@ impl DecimalRegister {
         }
     }
 
-    pub fn decode(bits: u16) -> DecodedDR
+    pub fn decode(bits: u16) -> Option<DR>
         ensures { result ≡ dr_decode_of bits }
     {
         if bits < 4 {
-            DecodedDR::Register(DR::from_low_bits(bits as u8))
+            Some(DR::from_low_bits(bits as u8))
         } else {
-            DecodedDR::Nothing
+            None
         }
     }
 

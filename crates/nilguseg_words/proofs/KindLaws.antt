@@ -9,7 +9,8 @@ use borrow.Author.Tests.{lt-ltb, le-ltb}
 use Rattle.instructions.specs.Decoding.{decode_of, undecodable}
 use Rattle.instructions.specs.Encoding.{encode_of}
 use Rattle.instructions.specs.declared.ins.Instruction.{Instruction}
-use Rattle.instructions.specs.declared.ins.encoding.Decoded.{Decoded}
+use Rattle.instructions.specs.declared.ins.encoding.Undecodable.{Undecodable}
+use Rattle.std.specs.Prelude.{Result, Ok, Err}
 use Rattle.nilguseg_words.specs.Instruction.{Kind, kind, kinds, kind_at, numbers, numbers_of, packed, decoded_number, encoded_number}
 
 -- k is none of the numbers below n
@@ -66,11 +67,11 @@ pub by : (k : ℕ) {a a' b b' r : ℕ} → r ≡ packed (numbers k a b) → a �
 by k h p q = rw (← p, ← q) h
 
 -- what a decoded word comes to
-module _ (w : ℕ) {d : Decoded} (h : d ≡ decode_of w) where
-  pub decoded_ins : {i : Instruction} {r : ℕ} → d ≡ Decoded.Ins i → r ≡ packed (numbers_of i) → r ≡ decoded_number (decode_of w)
+module _ (w : ℕ) {d : Result Instruction Undecodable} (h : d ≡ decode_of w) where
+  pub decoded_ins : {i : Instruction} {r : ℕ} → d ≡ Ok i → r ≡ packed (numbers_of i) → r ≡ decoded_number (decode_of w)
   decoded_ins p q = rw (← h, p) q
 
-  pub decoded_none : {v : ℕ} → d ≡ Decoded.Undecodable v → undecodable * 2 ^ 24 + v ≡ decoded_number (decode_of w)
+  pub decoded_none : {v : Undecodable} → d ≡ Err v → undecodable * 2 ^ 24 + v.word ≡ decoded_number (decode_of w)
   decoded_none p = rw (← h, p)
 
 -- what numbers are encoded to, by the tests of their operands

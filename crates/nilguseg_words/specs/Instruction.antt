@@ -1,6 +1,6 @@
 -- The numbers of an instruction for a host: its kind from 0 to 42 in the order of the enum, and its operands. Documents name no such
 -- numbers; a register has its own (document 01, Records).
-use Rattle.std.specs.Prelude.{ℕ, ◌+◌, ◌*◌, ◌^◌, ◌<◌, List, [], ◌∷◌, ◌≡◌, ltb, get_or, if◌then◌else◌}
+use Rattle.std.specs.Prelude.{ℕ, ◌+◌, ◌*◌, ◌^◌, ◌<◌, List, [], ◌∷◌, ◌≡◌, ltb, get_or, if◌then◌else◌, Result, Ok, Err}
 use Rattle.instructions.specs.Decoding.{undecodable}
 use Rattle.instructions.specs.Encoding.{encode_of}
 use Rattle.instructions.specs.Reg.{gpr_number, gpr_at, spr_number, spr_at, dr_number, dr_at}
@@ -8,7 +8,7 @@ use Rattle.instructions.specs.declared.reg.GeneralPurposeRegister.{GeneralPurpos
 use Rattle.instructions.specs.declared.reg.SpecialPurposeRegister.{SpecialPurposeRegister}
 use Rattle.instructions.specs.declared.reg.DecimalRegister.{DecimalRegister}
 use Rattle.instructions.specs.declared.ins.Instruction.{Instruction}
-use Rattle.instructions.specs.declared.ins.encoding.Decoded.{Decoded}
+use Rattle.instructions.specs.declared.ins.encoding.Undecodable.{Undecodable}
 use Rattle.instructions.specs.declared.ins.Instruction.TheVariants.{Nop, Hlt, Mov, DMov, Putl, Puth, Read, Write, Spread, Spwrite, DRead, DWrite, Push, Pop, Movso, Movsi, Spadd, Spinc, Spdec, Not, And, Booland, Or, Xor, Shl, Shr, Bitset, Neg, Inc, Dec, Add, Sub, Mul, Inv, Eqz, Eq, Gt, Gteq, Jmpoff, Cjmpoff, Cjmp, Call, Ret}
 
 -- the number of the kind, and of the operands in the order of the instruction's fields, 0 where there is none
@@ -78,9 +78,9 @@ abbrev pub packed : Numbers → ℕ
 packed n = n.kind * 2 ^ 16 + n.first * 2 ^ 8 + n.second
 
 -- what a word decodes to: the instruction, or the stop in bits 31..24 with its value
-abbrev pub decoded_number : Decoded → ℕ
-decoded_number (Decoded.Ins i) = packed (numbers_of i)
-decoded_number (Decoded.Undecodable w) = undecodable * 2 ^ 24 + w
+abbrev pub decoded_number : Result Instruction Undecodable → ℕ
+decoded_number (Ok i) = packed (numbers_of i)
+decoded_number (Err e) = undecodable * 2 ^ 24 + e.word
 
 -- an operand: how many values it has, and what each number stands for
 pub record Operand (A : Type 0) : Type 0 where

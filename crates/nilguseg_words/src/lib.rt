@@ -7,7 +7,7 @@ ghost use Rattle.instructions.specs.Decoding.{decode_of};
 ghost use Rattle.nilguseg_words.specs.Instruction.{decoded_number, encoded_number};
 
 use crate::instruction::{first_values, pack, second_values, unpack};
-use instructions::{Decoded, Instruction};
+use instructions::Instruction;
 
 mod instruction;
 
@@ -17,8 +17,8 @@ pub extern "C" fn nilguseg_decode(word: u16) -> u32
     ensures { result ≡ decoded_number (decode_of word) }
 {
     match Instruction::decode(word) {
-        Decoded::Ins(ins) => pack(ins),
-        Decoded::Undecodable(w) => 10 * 0x1000000 + w as u32,
+        Ok(ins) => pack(ins),
+        Err(e) => 10 * 0x1000000 + e.word as u32,
     }
 }
 

@@ -11,7 +11,8 @@ use denote.Enum.Declared.{tag_of}
 use types.Run.{OneOf}
 use Rattle.instructions.specs.Decoding.{decode_of}
 use Rattle.instructions.specs.declared.ins.Instruction.{Instruction}
-use Rattle.instructions.specs.declared.ins.encoding.Decoded.{Decoded}
+use Rattle.std.specs.Prelude.{Result, Ok, Err}
+use Rattle.instructions.specs.declared.ins.encoding.Undecodable.{Undecodable}
 use Rattle.instructions.specs.declared.reg.GeneralPurposeRegister.{GeneralPurposeRegister}
 use Rattle.execute.specs.contracts.effect.Effect.{the_type}
 use Rattle.execute.specs.Execute.{execute_of}
@@ -112,13 +113,13 @@ replies_none size l k e n o =
     (rw (← h) (along_none l k n), h)
 
 -- a word obeyed, by its decoding and the reply to its access
-module _ (gprs : List ℕ) (ip rp sp ef w size : ℕ) (l : List ℕ) (k : ℕ) {d : Decoded} (a : d ≡ decode_of w) where
-  pub goes_undecodable : {v : ℕ} {t : Applied} → k ≤ length l → d ≡ Decoded.Undecodable v → t ≡ off ip rp sp ef (stop.Undecodable v)
+module _ (gprs : List ℕ) (ip rp sp ef w size : ℕ) (l : List ℕ) (k : ℕ) {d : Result Instruction Undecodable} (a : d ≡ decode_of w) where
+  pub goes_undecodable : {v : Undecodable} {t : Applied} → k ≤ length l → d ≡ Err v → t ≡ off ip rp sp ef (stop.Undecodable v.word)
       → Goes size l k gprs (Turned.Cycled t k) (carry_out tape_store (plan_of (core_of gprs ip rp sp ef) w) (tape size (drop k l)))
   unfolding plan_of
   goes_undecodable n u h = rw (← a, u, h) (along_none l k n, refl)
 
-  module _ {i : Instruction} {e : Effect} {y : Recorded} (u : d ≡ Decoded.Ins i) (v : e ≡ execute_of (registers gprs ip rp sp ef) i w)
+  module _ {i : Instruction} {e : Effect} {y : Recorded} (u : d ≡ Ok i) (v : e ≡ execute_of (registers gprs ip rp sp ef) i w)
       (made : Replies size l k y (make_of tape_store (access_of e) (tape size (drop k l)))) where
     pub goes_decoded : (t : Applied) {x : Reply} {j : ℕ} {gprs' : List ℕ} → y ≡ Recorded.Reply x j → left t gprs' ≡ applied gprs ip rp sp ef e x
         → Goes size l k gprs' (Turned.Cycled t j) (carry_out tape_store (plan_of (core_of gprs ip rp sp ef) w) (tape size (drop k l)))

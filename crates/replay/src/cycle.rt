@@ -9,7 +9,7 @@ ghost use Rattle.replay.specs.Replay.{tape, tape_store, replayed, answer_of, rep
 use crate::tape::{Found, Recorded, access, read_log};
 use emulator::{Applied, Core, End, Progress, Purpose, Run, Stop, apply, faulted, refuses_length};
 use execute::execute;
-use instructions::{Decoded, Instruction};
+use instructions::Instruction;
 
 // What a cycle comes to: the special registers with its progress, and the place in the log after it; or its reads aren't the log's.
 #[derive(Clone, Copy)]
@@ -34,10 +34,8 @@ fn obey(
     ensures { Goes size log.now at gprs.new result (carry_out tape_store (plan_of (core_of gprs.old ip rp sp ef) word) (tape size (drop at log.now))) }
 {
     match Instruction::decode(word) {
-        Decoded::Undecodable(w) => {
-            Turned::Cycled(faulted(ip, rp, sp, ef, Stop::Undecodable(w)), at)
-        }
-        Decoded::Ins(ins) => {
+        Err(e) => { Turned::Cycled(faulted(ip, rp, sp, ef, Stop::Undecodable(e.word)), at) }
+        Ok(ins) => {
             let effect = execute(ins, word, gprs, ip, rp, sp, ef);
             match access(effect, size, log, at) {
                 Recorded::Reply(reply, next) => {

@@ -10,7 +10,9 @@ use borrow.Author.Tests.{ltb-true, ltb-false}
 use Rattle.instructions.proofs.Cases.{by_test}
 use Rattle.instructions.specs.Decoding.{decode_of}
 use Rattle.instructions.specs.Reg.{gpr_number}
-use Rattle.instructions.specs.declared.ins.encoding.Decoded.{Decoded}
+use Rattle.instructions.specs.declared.ins.Instruction.{Instruction}
+use Rattle.instructions.specs.declared.ins.encoding.Undecodable.{Undecodable}
+use Rattle.std.specs.Prelude.{Result, Ok, Err}
 use Rattle.instructions.specs.declared.reg.GeneralPurposeRegister.{GeneralPurposeRegister}
 use Rattle.execute.specs.Execute.{execute_of}
 use Rattle.execute.specs.Registers.{registers}
@@ -77,13 +79,13 @@ advanced_fits : (c : Core) → CoreFits c → CoreFits (advanced c)
 advanced_fits c h = record { gprs = h.gprs; ip = reduced _; rp = h.rp; sp = h.sp; ef = h.ef }
 
 -- a plan, by what the word decodes to
-decoded_fits : (c : Core) (w : ℕ) → CoreFits c → (d : Decoded) → decode_of w ≡ d → CoreFits (decoded_plan c w d).core
-decoded_fits c w h (Decoded.Ins i) e = after_fits c (execute_of (registers c.gprs c.ip c.rp c.sp c.ef) i w) h (words _ w i h e)
-decoded_fits c w h (Decoded.Undecodable v) e = h
+decoded_fits : (c : Core) (w : ℕ) → CoreFits c → (d : Result Instruction Undecodable) → decode_of w ≡ d → CoreFits (decoded_plan c w d).core
+decoded_fits c w h (Ok i) e = after_fits c (execute_of (registers c.gprs c.ip c.rp c.sp c.ef) i w) h (words _ w i h e)
+decoded_fits c w h (Err v) e = h
 
-decoded_stored : (c : Core) (w : ℕ) → CoreFits c → (d : Decoded) → decode_of w ≡ d → AccessFits IsWord (decoded_plan c w d).access
-decoded_stored c w h (Decoded.Ins i) e = stored_fits (execute_of (registers c.gprs c.ip c.rp c.sp c.ef) i w) (words _ w i h e)
-decoded_stored c w h (Decoded.Undecodable v) e = tt
+decoded_stored : (c : Core) (w : ℕ) → CoreFits c → (d : Result Instruction Undecodable) → decode_of w ≡ d → AccessFits IsWord (decoded_plan c w d).access
+decoded_stored c w h (Ok i) e = stored_fits (execute_of (registers c.gprs c.ip c.rp c.sp c.ef) i w) (words _ w i h e)
+decoded_stored c w h (Err v) e = tt
 
 pub plan_fits : (c : Core) (w : ℕ) → CoreFits c → IsWord w → CoreFits (plan_of (advanced c) w).core
 unfolding plan_of

@@ -1,13 +1,13 @@
 -- Words a planner would recognise (document 01): the twelve rows.
-use Rattle.std.specs.Prelude.{ℕ, List, [], ◌∷◌, ◌++◌, ◌≡◌, replicate}
-use Rattle.instructions.specs.Decoding.{decode_of}
+use Rattle.std.specs.Prelude.{ℕ, List, [], ◌∷◌, ◌++◌, ◌≡◌, replicate, Result, Ok}
+use Rattle.instructions.specs.Decoding.{decode_of, no_instruction}
 use Rattle.instructions.specs.Encoding.{encode_of}
 use Rattle.instructions.specs.declared.reg.DecimalRegister.TheVariants.{D0, D1}
 use Rattle.instructions.specs.declared.reg.GeneralPurposeRegister.TheVariants.{R1, R2, R3, R5}
 use Rattle.instructions.specs.declared.reg.SpecialPurposeRegister.TheVariants.{SP}
 use Rattle.instructions.specs.declared.ins.Instruction.TheVariants.{Mov, DMov, Spread, Movsi}
-use Rattle.instructions.specs.declared.ins.encoding.Decoded.{Decoded}
-use Rattle.instructions.specs.declared.ins.encoding.Decoded.TheVariants.{Ins, Undecodable}
+use Rattle.instructions.specs.declared.ins.Instruction.{Instruction}
+use Rattle.instructions.specs.declared.ins.encoding.Undecodable.{Undecodable}
 use Rattle.emulator.specs.Core.{core_of, new_core}
 use Rattle.emulator.specs.Memory.{Memory, lent}
 use Rattle.emulator.specs.Outcome.{Outcome, stepped, halted, limit, fault}
@@ -17,7 +17,7 @@ use Rattle.emulator.specs.declared.core_record.Core.{Core}
 -- what a row shows: a word, what a word decodes to, a step's outcome and core, or a run's end, steps, core and marks
 pub data Seen : Type 0 where
   word : ℕ → Seen
-  decoded : Decoded → Seen
+  decoded : Result Instruction Undecodable → Seen
   step : Outcome → Core → Seen
   run : Outcome → ℕ → Core → List ℕ → Seen
 
@@ -71,9 +71,9 @@ computed =
 abbrev pub expected : List Seen
 expected =
     word 0x2153
-    ∷ decoded (Undecodable 0x2158) ∷ decoded (Ins (DMov D0 D1))
+    ∷ decoded (no_instruction 0x2158) ∷ decoded (Ok (DMov D0 D1))
     ∷ word 0x3023
-    ∷ decoded (Undecodable 0x4600) ∷ decoded (Undecodable 0x6219)
+    ∷ decoded (no_instruction 0x4600) ∷ decoded (no_instruction 0x6219)
     ∷ word 0x21E1
     ∷ step stepped pushed ∷ step (fault 11 0xFFFE) pushed
     ∷ step stepped (core 0 0 5)

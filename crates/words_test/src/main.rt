@@ -2,7 +2,7 @@
 // how many are of each kind and sort.
 #![tactic(auto)]
 
-use instructions::{DR, Decoded, DecodedDR, DecodedGPR, DecodedSPR, GPR, Instruction, SPR};
+use instructions::{DR, GPR, Instruction, SPR};
 use std::io;
 
 // The names of the rows, eight bytes each: the 43 kinds, then the rows that have a name below.
@@ -56,30 +56,30 @@ fn add(counts: &mut [u64; 256], row: u8, one: bool) {
 // The row in which a word counts: that of its kind, or that it is of none or does not come back.
 fn row(w: u16) -> u8 {
     match Instruction::decode(w) {
-        Decoded::Ins(i) => { if i.encode() == w { kind(i) } else { WRONG } }
-        Decoded::Undecodable(v) => { if v == w { OTHER } else { WRONG } }
+        Ok(i) => { if i.encode() == w { kind(i) } else { WRONG } }
+        Err(e) => { if e.word == w { OTHER } else { WRONG } }
     }
 }
 
 // Whether a word decodes to a register whose number is that word again.
 fn is_general(w: u16) -> bool {
     match GPR::decode(w) {
-        DecodedGPR::Register(r) => r.number() == w,
-        DecodedGPR::Nothing => false,
+        Some(r) => r.number() == w,
+        None => false,
     }
 }
 
 fn is_special(w: u16) -> bool {
     match SPR::decode(w) {
-        DecodedSPR::Register(r) => r.encode() == w,
-        DecodedSPR::Nothing => false,
+        Some(r) => r.encode() == w,
+        None => false,
     }
 }
 
 fn is_decimal(w: u16) -> bool {
     match DR::decode(w) {
-        DecodedDR::Register(r) => r.encode() == w,
-        DecodedDR::Nothing => false,
+        Some(r) => r.encode() == w,
+        None => false,
     }
 }
 

@@ -8,11 +8,10 @@ use crate::ins::Instruction;
 use crate::reg::{DR, GPR, SPR};
 use opcode::InstructionOpcode;
 
-// What decoding a word answers.
-#[derive(Clone, Copy)]
-pub enum Decoded {
-    Ins(Instruction),
-    Undecodable(u16),
+// A word that stands for no instruction.
+#[derive(Clone, Copy, Debug, PartialEq, Eq)]
+pub struct Undecodable {
+    pub word: u16,
 }
 
 impl Instruction {
@@ -81,7 +80,7 @@ impl Instruction {
         }
     }
 
-    pub fn decode(bits: u16) -> Decoded
+    pub fn decode(bits: u16) -> Result<Instruction, Undecodable>
         ensures { result ≡ decode_of bits }
     {
         let hi = (bits / 256) as u8;
@@ -112,13 +111,18 @@ fn immediate(reg: GPR, imm: u8) -> u16
 }
 
 // The instruction with this opcode, with the operands that the word's two bytes hold.
-fn with_operands(opcode: InstructionOpcode, bits: u16, hi: u8, lo: u8) -> Decoded
+fn with_operands(
+    opcode: InstructionOpcode,
+    bits: u16,
+    hi: u8,
+    lo: u8,
+) -> Result<Instruction, Undecodable>
     ensures { result ≡ operands_of opcode bits hi lo }
 {
     let p = GPR::from_low_bits(lo / 16);
     let q = GPR::from_low_bits(lo);
     let ins = match opcode {
-        InstructionOpcode::Undecodable => return Decoded::Undecodable(bits),
+        InstructionOpcode::Undecodable => return Err(Undecodable { word: bits }),
 
         // Core
         InstructionOpcode::Nop => Instruction::Nop,
@@ -206,5 +210,5 @@ fn with_operands(opcode: InstructionOpcode, bits: u16, hi: u8, lo: u8) -> Decode
         InstructionOpcode::Call => Instruction::Call { src: q },
         InstructionOpcode::Ret => Instruction::Ret,
     };
-    Decoded::Ins(ins)
+    Ok(ins)
 }
