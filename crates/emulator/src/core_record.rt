@@ -9,7 +9,7 @@ ghost use Rattle.emulator.specs.Machine.{plan_of, turn, refusal_of, step_of, ran
 use crate::cycle::{End, LoggedRun, turns};
 use crate::memory::{clear, refuses_length};
 use crate::stop::Stop;
-use instructions::{GPR, SPR};
+use instructions::{GPR, Register, SPR};
 
 #[derive(Clone, Copy)]
 pub struct Core {

@@ -6,6 +6,7 @@ ghost use Rattle.emulator.specs.Machine.{after_of, access_of, settled, settle_of
 
 use crate::stop::Stop;
 use execute::Effect;
+use instructions::Register;
 
 // What an access comes to: nothing was to be read, a word was read at an address, or a stop.
 #[derive(Clone, Copy)]

@@ -4,7 +4,7 @@ ghost use Rattle.execute.specs.Execute.{execute_of, jumped_of, to_spr};
 ghost use Rattle.execute.specs.Registers.{registers, gpr_of, spr_of};
 
 use crate::{flags, word};
-use instructions::{GPR, Instruction, SPR};
+use instructions::{GPR, Instruction, Register, SPR};
 
 #[derive(Clone, Copy)]
 pub enum Effect {

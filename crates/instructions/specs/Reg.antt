@@ -21,9 +21,6 @@ gpr_number R7 = 7
 abbrev pub gpr_at : ℕ → GeneralPurposeRegister
 gpr_at n = get_or (R0 ∷ R1 ∷ R2 ∷ R3 ∷ R4 ∷ R5 ∷ R6 ∷ R7 ∷ []) (n % 8) R7
 
-abbrev pub gpr_decode_of : ℕ → Option GeneralPurposeRegister
-gpr_decode_of n = if ltb n 8 then Some (gpr_at n) else None
-
 abbrev pub spr_number : SpecialPurposeRegister → ℕ
 spr_number IP = 0
 spr_number RP = 1
@@ -33,9 +30,6 @@ spr_number EF = 3
 -- the register whose number is n modulo 4
 abbrev pub spr_at : ℕ → SpecialPurposeRegister
 spr_at n = get_or (IP ∷ RP ∷ SP ∷ EF ∷ []) (n % 4) EF
-
-abbrev pub spr_decode_of : ℕ → Option SpecialPurposeRegister
-spr_decode_of n = if ltb n 4 then Some (spr_at n) else None
 
 abbrev pub dr_number : DecimalRegister → ℕ
 dr_number D0 = 0
@@ -47,5 +41,6 @@ dr_number D3 = 3
 abbrev pub dr_at : ℕ → DecimalRegister
 dr_at n = get_or (D0 ∷ D1 ∷ D2 ∷ D3 ∷ []) (n % 4) D3
 
-abbrev pub dr_decode_of : ℕ → Option DecimalRegister
-dr_decode_of n = if ltb n 4 then Some (dr_at n) else None
+-- the register of the number n, of those that at gives for the numbers below count
+abbrev pub register_of : {R : Type 0} → ℕ → (ℕ → R) → ℕ → Option R
+register_of count at n = if ltb n count then Some (at n) else None

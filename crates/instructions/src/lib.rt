@@ -6,4 +6,4 @@ mod reg;
 
 pub use ins::Instruction;
 pub use ins::encoding::Undecodable;
-pub use reg::{DR, GPR, SPR};
+pub use reg::{DR, GPR, Register, SPR};

@@ -1,9 +1,42 @@
 // The registers, and the numbers that stand for them in a word.
-ghost use Rattle.std.specs.Prelude.{◌≡◌};
+ghost use Rattle.std.specs.Prelude.{◌≡◌, ◌≤◌, ℕ};
+ghost use Rattle.std.proofs.Common.{rules};
 ghost use Rattle.instructions.specs.Bounded.{Bounded};
-ghost use Rattle.instructions.specs.Reg.{gpr_number, gpr_at, gpr_decode_of, spr_number, spr_at, spr_decode_of, dr_number, dr_at, dr_decode_of};
+ghost use Rattle.instructions.specs.Reg.{gpr_number, gpr_at, spr_number, spr_at, dr_number, dr_at, register_of};
 
-#[derive(Clone, Copy)]
+// A sort of registers, which have the numbers below their count.
+pub trait Register: Copy {
+    ghost number: { Self → ℕ };
+
+    // The register whose number is in the lowest bits.
+    ghost at: { ℕ → Self };
+
+    ghost COUNT: { ℕ };
+
+    const COUNT: u16;
+
+    fn encode(self) -> u16
+        ensures { Bounded result (number self) COUNT };
+
+    fn from_low_bits(bits: u8) -> Self
+        ensures { result ≡ at bits };
+
+    fn decode(bits: u16) -> Option<Self>
+        ensures { result ≡ register_of COUNT at bits }
+    {
+        if bits < Self::COUNT {
+            Some(Self::from_low_bits(bits as u8))
+        } else {
+            None
+        }
+    }
+
+    ghost fits_byte: { COUNT ≤ 256 };
+
+    ghost at_number: { (r : Self) → at (number r) ≡ r };
+}
+
+#[derive(Clone, Copy, Debug, PartialEq, Eq)]
 pub enum GeneralPurposeRegister {
     R0,
     R1,
@@ -17,7 +50,7 @@ pub enum GeneralPurposeRegister {
 
 pub type GPR = GeneralPurposeRegister;
 
-#[derive(Clone, Copy)]
+#[derive(Clone, Copy, Debug, PartialEq, Eq)]
 pub enum SpecialPurposeRegister {
     IP,
     RP,
@@ -27,7 +60,7 @@ pub enum SpecialPurposeRegister {
 
 pub type SPR = SpecialPurposeRegister;
 
-#[derive(Clone, Copy)]
+#[derive(Clone, Copy, Debug, PartialEq, Eq)]
 pub enum DecimalRegister {
     D0,
     D1,
@@ -44,36 +77,26 @@ impl GeneralPurposeRegister {
     {
         self.encode()
     }
+}
 
-    pub fn encode(self) -> u16
-        ensures { Bounded result (gpr_number self) 8 }
-    {
-        match self {
-            GPR::R0 => 0,
-            GPR::R1 => 1,
-            GPR::R2 => 2,
-            GPR::R3 => 3,
-            GPR::R4 => 4,
-            GPR::R5 => 5,
-            GPR::R6 => 6,
-            GPR::R7 => 7,
-        }
+impl Register for GeneralPurposeRegister {
+    ghost number = { gpr_number };
+
+    ghost at = { gpr_at };
+
+    ghost COUNT = { 8 };
+
+    const COUNT: u16 = 8;
+
+    ghost fits_byte = { Prim.search rules };
+
+    ghost at_number = { Prim.search rules };
+
+    fn encode(self) -> u16 {
+        self as u16
     }
 
-    pub fn decode(bits: u16) -> Option<GPR>
-        ensures { result ≡ gpr_decode_of bits }
-    {
-        if bits < 8 {
-            Some(GPR::from_low_bits(bits as u8))
-        } else {
-            None
-        }
-    }
-
-    // The register whose number is in the lowest 3 bits.
-    pub fn from_low_bits(bits: u8) -> GPR
-        ensures { result ≡ gpr_at bits }
-    {
+    fn from_low_bits(bits: u8) -> GPR {
         match bits % 8 {
             0 => GPR::R0,
             1 => GPR::R1,
@@ -87,32 +110,24 @@ impl GeneralPurposeRegister {
     }
 }
 
-impl SpecialPurposeRegister {
-    pub fn encode(self) -> u16
-        ensures { Bounded result (spr_number self) 4 }
-    {
-        match self {
-            SPR::IP => 0,
-            SPR::RP => 1,
-            SPR::SP => 2,
-            SPR::EF => 3,
-        }
+impl Register for SpecialPurposeRegister {
+    ghost number = { spr_number };
+
+    ghost at = { spr_at };
+
+    ghost COUNT = { 4 };
+
+    const COUNT: u16 = 4;
+
+    ghost fits_byte = { Prim.search rules };
+
+    ghost at_number = { Prim.search rules };
+
+    fn encode(self) -> u16 {
+        self as u16
     }
 
-    pub fn decode(bits: u16) -> Option<SPR>
-        ensures { result ≡ spr_decode_of bits }
-    {
-        if bits < 4 {
-            Some(SPR::from_low_bits(bits as u8))
-        } else {
-            None
-        }
-    }
-
-    // The register whose number is in the lowest 2 bits.
-    pub fn from_low_bits(bits: u8) -> SPR
-        ensures { result ≡ spr_at bits }
-    {
+    fn from_low_bits(bits: u8) -> SPR {
         match bits % 4 {
             0 => SPR::IP,
             1 => SPR::RP,
@@ -122,32 +137,24 @@ impl SpecialPurposeRegister {
     }
 }
 
-impl DecimalRegister {
-    pub fn encode(self) -> u16
-        ensures { Bounded result (dr_number self) 4 }
-    {
-        match self {
-            DR::D0 => 0,
-            DR::D1 => 1,
-            DR::D2 => 2,
-            DR::D3 => 3,
-        }
+impl Register for DecimalRegister {
+    ghost number = { dr_number };
+
+    ghost at = { dr_at };
+
+    ghost COUNT = { 4 };
+
+    const COUNT: u16 = 4;
+
+    ghost fits_byte = { Prim.search rules };
+
+    ghost at_number = { Prim.search rules };
+
+    fn encode(self) -> u16 {
+        self as u16
     }
 
-    pub fn decode(bits: u16) -> Option<DR>
-        ensures { result ≡ dr_decode_of bits }
-    {
-        if bits < 4 {
-            Some(DR::from_low_bits(bits as u8))
-        } else {
-            None
-        }
-    }
-
-    // The register whose number is in the lowest 2 bits.
-    pub fn from_low_bits(bits: u8) -> DR
-        ensures { result ≡ dr_at bits }
-    {
+    fn from_low_bits(bits: u8) -> DR {
         match bits % 4 {
             0 => DR::D0,
             1 => DR::D1,

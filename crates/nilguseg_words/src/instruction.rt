@@ -3,7 +3,7 @@ ghost use Rattle.std.specs.Prelude.{◌≡◌};
 ghost use Rattle.instructions.specs.Reg.{gpr_number, spr_number, dr_number};
 ghost use Rattle.nilguseg_words.specs.Instruction.{numbers, numbers_of, packed, kind_at};
 
-use instructions::{DR, GPR, Instruction, SPR};
+use instructions::{DR, GPR, Instruction, Register, SPR};
 
 // How many values the first operand of each kind has: 8 or 4 registers, or any byte, also where the kind has none.
 const FIRST: [u16; 43] = [

@@ -2,7 +2,7 @@
 ghost use Rattle.std.specs.Prelude.{◌<◌, ◌≤◌};
 
 use emulator::{Answer, Core, End, Stop, step_by_lent};
-use instructions::{GPR, SPR};
+use instructions::{GPR, Register, SPR};
 
 // Bytes of a case.
 pub const CASE: usize = 222;

@@ -3,7 +3,7 @@ ghost use Rattle.std.specs.Prelude.{◌≡◌};
 ghost use Rattle.sheet.specs.Record.{record_of, register_of, with_register};
 
 use emulator::Core;
-use instructions::{GPR, SPR};
+use instructions::{GPR, Register, SPR};
 
 #[derive(Clone, Copy)]
 pub enum Record {

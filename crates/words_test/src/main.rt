@@ -2,7 +2,7 @@
 // how many are of each kind and sort.
 #![tactic(auto)]
 
-use instructions::{DR, GPR, Instruction, SPR};
+use instructions::{DR, GPR, Instruction, Register, SPR};
 use std::io;
 
 // The names of the rows, eight bytes each: the 43 kinds, then the rows that have a name below.

@@ -5,7 +5,7 @@ ghost use Rattle.instructions.specs.Encoding.{encode_of, pair_of, slot_of, immed
 ghost use Rattle.instructions.specs.Decoding.{operands_of, decode_of};
 
 use crate::ins::Instruction;
-use crate::reg::{DR, GPR, SPR};
+use crate::reg::{DR, GPR, Register, SPR};
 use opcode::InstructionOpcode;
 
 // A word that stands for no instruction.
