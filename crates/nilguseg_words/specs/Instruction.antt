@@ -1,9 +1,9 @@
 -- The numbers of an instruction for a host: its kind from 0 to 42 in the order of the enum, and its operands. Documents name no such
 -- numbers; a register has its own (document 01, Records).
-use Rattle.std.specs.Prelude.{ℕ, ◌+◌, ◌*◌, ◌^◌, ◌<◌, List, [], ◌∷◌, ◌≡◌, ltb, get_or, if◌then◌else◌, Result, Ok, Err}
+use Rattle.std.specs.Prelude.{ℕ, ◌+◌, ◌*◌, ◌^◌, List, [], ◌∷◌, ◌≡◌, get_or, Option, Some, None, option_map, option_and_then, Result, Ok, Err}
 use Rattle.instructions.specs.Decoding.{undecodable}
 use Rattle.instructions.specs.Encoding.{encode_of}
-use Rattle.instructions.specs.Reg.{gpr_number, gpr_at, spr_number, spr_at, dr_number, dr_at}
+use Rattle.instructions.specs.Reg.{gpr_number, gpr_at, spr_number, spr_at, dr_number, dr_at, register_of}
 use Rattle.instructions.specs.declared.reg.GeneralPurposeRegister.{GeneralPurposeRegister}
 use Rattle.instructions.specs.declared.reg.SpecialPurposeRegister.{SpecialPurposeRegister}
 use Rattle.instructions.specs.declared.reg.DecimalRegister.{DecimalRegister}
@@ -82,46 +82,33 @@ abbrev pub decoded_number : Result Instruction Undecodable → ℕ
 decoded_number (Ok i) = packed (numbers_of i)
 decoded_number (Err e) = undecodable * 2 ^ 24 + e.word
 
--- an operand: how many values it has, and what each number stands for
-pub record Operand (A : Type 0) : Type 0 where
-  pub values : ℕ
-  pub at : ℕ → A
+-- what a number stands for as an operand, if it stands for anything: a register of each sort, and a byte for itself
+abbrev pub gpr : ℕ → Option GeneralPurposeRegister
+gpr n = register_of 8 gpr_at n
 
-abbrev pub operand : {A : Type 0} → ℕ → (ℕ → A) → Operand A
-operand n f = record { values = n; at = f }
+abbrev pub spr : ℕ → Option SpecialPurposeRegister
+spr n = register_of 4 spr_at n
 
-abbrev pub gpr : Operand GeneralPurposeRegister
-gpr = operand 8 gpr_at
+abbrev pub dr : ℕ → Option DecimalRegister
+dr n = register_of 4 dr_at n
 
-abbrev pub spr : Operand SpecialPurposeRegister
-spr = operand 4 spr_at
+abbrev pub byte : ℕ → Option ℕ
+byte n = Some n
 
-abbrev pub dr : Operand DecimalRegister
-dr = operand 4 dr_at
+-- a kind: the instruction that the numbers of its operands make, if they stand for any; a number that it has no operand for is not looked at
+abbrev pub Kind : Type 0
+Kind = ℕ → ℕ → Option Instruction
 
-abbrev pub byte : Operand ℕ
-byte = operand 256 (λ n. n)
-
--- a kind: how many values its operands have, and the instruction that two of them make
-pub record Kind : Type 0 where
-  pub first : ℕ
-  pub second : ℕ
-  pub made : ℕ → ℕ → Instruction
-
-abbrev pub kind : ℕ → ℕ → (ℕ → ℕ → Instruction) → Kind
-kind n m f = record { first = n; second = m; made = f }
-
--- an operand that the kind doesn't have is any byte, and is not looked at
 abbrev pub alone : Instruction → Kind
-alone i = kind 256 256 (λ a b. i)
+alone i a b = Some i
 
-abbrev pub one : {A : Type 0} → Operand A → (A → Instruction) → Kind
-one x f = kind x.values 256 (λ a b. f (x.at a))
+abbrev pub one : {A : Type 0} → (ℕ → Option A) → (A → Instruction) → Kind
+one x f a b = option_map f (x a)
 
-abbrev pub two : {A B : Type 0} → Operand A → Operand B → (A → B → Instruction) → Kind
-two x y f = kind x.values y.values (λ a b. f (x.at a) (y.at b))
+abbrev pub two : {A B : Type 0} → (ℕ → Option A) → (ℕ → Option B) → (A → B → Instruction) → Kind
+two x y f a b = option_and_then (λ p. option_map (f p) (y b)) (x a)
 
-unfoldable pub kinds : List Kind
+abbrev pub kinds : List Kind
 kinds =
     -- Core
     alone Nop ∷
@@ -176,19 +163,19 @@ kinds =
     alone Ret ∷
     []
 
--- the kind of that number; above 42 there is none, and no operand fits
-unfoldable pub kind_at : ℕ → Kind
-kind_at k = get_or kinds k (kind 0 0 (λ a b. Ret))
+-- the instruction of a kind's number and two operands'; no kind has a number above 42
+abbrev pub instruction_of : ℕ → Kind
+instruction_of k = get_or kinds k (λ a b. None)
 
--- the word of the instruction, or 0x10000 where an operand does not fit
-abbrev pub word_of : Kind → ℕ → ℕ → ℕ
-word_of k a b = if ltb a k.first then (if ltb b k.second then encode_of (k.made a b) else 0x10000) else 0x10000
+-- the word of the instruction, or 0x10000 where there is none
+abbrev pub word_of : Option Instruction → ℕ
+word_of (Some i) = encode_of i
+word_of None = 0x10000
 
 abbrev pub encoded_number : ℕ → ℕ → ℕ → ℕ
-encoded_number k a b = word_of (kind_at k) a b
+encoded_number k a b = word_of (instruction_of k a b)
 
--- what decoding says of an instruction, encoding takes: its numbers, which are bytes as in every value of the code, encode to its word
+-- what decoding says of an instruction, encoding takes: its numbers encode to its word
 abbrev pub NumbersEncode : Type 0
 NumbersEncode =
-    (i : Instruction) → (numbers_of i).first < 256 → (numbers_of i).second < 256
-    → encoded_number (numbers_of i).kind (numbers_of i).first (numbers_of i).second ≡ encode_of i
+    (i : Instruction) → encoded_number (numbers_of i).kind (numbers_of i).first (numbers_of i).second ≡ encode_of i

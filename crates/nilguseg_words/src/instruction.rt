@@ -1,50 +1,21 @@
 // The numbers of the instructions' kinds and operands.
 ghost use Rattle.std.specs.Prelude.{◌≡◌};
-ghost use Rattle.instructions.specs.Reg.{gpr_number, spr_number, dr_number};
-ghost use Rattle.nilguseg_words.specs.Instruction.{numbers, numbers_of, packed, kind_at};
+ghost use Rattle.instructions.specs.Reg.{gpr_number, register_of};
+ghost use Rattle.nilguseg_words.specs.Instruction.{numbers, numbers_of, packed, instruction_of};
 
-use instructions::{DR, GPR, Instruction, Register, SPR};
+use instructions::{GPR, Instruction, Register};
 
-// How many values the first operand of each kind has: 8 or 4 registers, or any byte, also where the kind has none.
-const FIRST: [u16; 43] = [
-    256, 256, 8, 4, 8, 8, 8, 8, 8, 256, 4, 8, 8, 8, 8, 4, 8, 256, 256, 8, 8, 8, 8, 8, 8, 8, 8, 8,
-    8, 8, 8, 8, 8, 256, 8, 8, 8, 8, 256, 256, 8, 8, 256,
-];
-
-// The same of the second operand.
-const SECOND: [u16; 43] = [
-    256, 256, 8, 4, 256, 256, 8, 8, 256, 8, 8, 4, 256, 256, 4, 8, 256, 256, 256, 256, 8, 8, 8, 8,
-    8, 8, 8, 256, 256, 256, 8, 8, 8, 256, 256, 8, 8, 8, 256, 256, 256, 256, 256,
-];
-
-pub fn first_values(kind: u8) -> u16
-    ensures { result ≡ (kind_at kind).first }
-{
-    if kind < 43 { FIRST[kind as usize] } else { 0 }
-}
-
-pub fn second_values(kind: u8) -> u16
-    ensures { result ≡ (kind_at kind).second }
-{
-    if kind < 43 { SECOND[kind as usize] } else { 0 }
-}
-
-fn gpr(reg: GPR) -> u8
-    ensures { result ≡ gpr_number reg }
+// The number of a register, and the register of a number, if there is one.
+fn number<R: Register>(reg: R) -> u8
+    ensures { result ≡ R.number reg }
 {
     reg.encode() as u8
 }
 
-fn spr(reg: SPR) -> u8
-    ensures { result ≡ spr_number reg }
+fn register<R: Register>(number: u8) -> Option<R>
+    ensures { result ≡ register_of R.COUNT R.at number }
 {
-    reg.encode() as u8
-}
-
-fn dr(reg: DR) -> u8
-    ensures { result ≡ dr_number reg }
-{
-    reg.encode() as u8
+    R::decode(number as u16)
 }
 
 fn numbers(kind: u8, first: u8, second: u8) -> u32
@@ -56,7 +27,7 @@ fn numbers(kind: u8, first: u8, second: u8) -> u32
 fn gprs(kind: u8, first: GPR, second: GPR) -> u32
     ensures { result ≡ packed (numbers kind (gpr_number first) (gpr_number second)) }
 {
-    numbers(kind, gpr(first), gpr(second))
+    numbers(kind, number(first), number(second))
 }
 
 // The numbers of an instruction.
@@ -68,31 +39,31 @@ pub fn pack(ins: Instruction) -> u32
         Instruction::Nop => numbers(0, 0, 0),
         Instruction::Hlt => numbers(1, 0, 0),
         Instruction::Mov { dest, src } => gprs(2, dest, src),
-        Instruction::DMov { dest, src } => numbers(3, dr(dest), dr(src)),
+        Instruction::DMov { dest, src } => numbers(3, number(dest), number(src)),
 
         // Immediate loads
-        Instruction::Putl { reg, imm } => numbers(4, gpr(reg), imm),
-        Instruction::Puth { reg, imm } => numbers(5, gpr(reg), imm),
+        Instruction::Putl { reg, imm } => numbers(4, number(reg), imm),
+        Instruction::Puth { reg, imm } => numbers(5, number(reg), imm),
 
         // Memory
         Instruction::Read { val, addr } => gprs(6, val, addr),
         Instruction::Write { addr, val } => gprs(7, addr, val),
-        Instruction::Spread { val, offset } => numbers(8, gpr(val), offset),
-        Instruction::Spwrite { offset, val } => numbers(9, offset, gpr(val)),
-        Instruction::DRead { val, addr } => numbers(10, dr(val), gpr(addr)),
-        Instruction::DWrite { addr, val } => numbers(11, gpr(addr), dr(val)),
-        Instruction::Push { val } => numbers(12, gpr(val), 0),
-        Instruction::Pop { val } => numbers(13, gpr(val), 0),
+        Instruction::Spread { val, offset } => numbers(8, number(val), offset),
+        Instruction::Spwrite { offset, val } => numbers(9, offset, number(val)),
+        Instruction::DRead { val, addr } => numbers(10, number(val), number(addr)),
+        Instruction::DWrite { addr, val } => numbers(11, number(addr), number(val)),
+        Instruction::Push { val } => numbers(12, number(val), 0),
+        Instruction::Pop { val } => numbers(13, number(val), 0),
 
         // Special-purpose registers
-        Instruction::Movso { dest, src } => numbers(14, gpr(dest), spr(src)),
-        Instruction::Movsi { dest, src } => numbers(15, spr(dest), gpr(src)),
-        Instruction::Spadd { val } => numbers(16, gpr(val), 0),
+        Instruction::Movso { dest, src } => numbers(14, number(dest), number(src)),
+        Instruction::Movsi { dest, src } => numbers(15, number(dest), number(src)),
+        Instruction::Spadd { val } => numbers(16, number(val), 0),
         Instruction::Spinc => numbers(17, 0, 0),
         Instruction::Spdec => numbers(18, 0, 0),
 
         // Bit manipulation
-        Instruction::Not { reg } => numbers(19, gpr(reg), 0),
+        Instruction::Not { reg } => numbers(19, number(reg), 0),
         Instruction::And { reg, val } => gprs(20, reg, val),
         Instruction::Booland { reg, val } => gprs(21, reg, val),
         Instruction::Or { reg, val } => gprs(22, reg, val),
@@ -102,16 +73,16 @@ pub fn pack(ins: Instruction) -> u32
         Instruction::Bitset { reg, idx } => gprs(26, reg, idx),
 
         // General-purpose arithmetic
-        Instruction::Neg { reg } => numbers(27, gpr(reg), 0),
-        Instruction::Inc { reg } => numbers(28, gpr(reg), 0),
-        Instruction::Dec { reg } => numbers(29, gpr(reg), 0),
+        Instruction::Neg { reg } => numbers(27, number(reg), 0),
+        Instruction::Inc { reg } => numbers(28, number(reg), 0),
+        Instruction::Dec { reg } => numbers(29, number(reg), 0),
         Instruction::Add { reg, val } => gprs(30, reg, val),
         Instruction::Sub { reg, val } => gprs(31, reg, val),
         Instruction::Mul { reg, val } => gprs(32, reg, val),
 
         // Comparison
         Instruction::Inv => numbers(33, 0, 0),
-        Instruction::Eqz { reg } => numbers(34, gpr(reg), 0),
+        Instruction::Eqz { reg } => numbers(34, number(reg), 0),
         Instruction::Eq { left, right } => gprs(35, left, right),
         Instruction::Gt { left, right } => gprs(36, left, right),
         Instruction::Gteq { left, right } => gprs(37, left, right),
@@ -119,92 +90,171 @@ pub fn pack(ins: Instruction) -> u32
         // Branching
         Instruction::Jmpoff { offset } => numbers(38, offset, 0),
         Instruction::Cjmpoff { offset } => numbers(39, offset, 0),
-        Instruction::Cjmp { src } => numbers(40, gpr(src), 0),
-        Instruction::Call { src } => numbers(41, gpr(src), 0),
+        Instruction::Cjmp { src } => numbers(40, number(src), 0),
+        Instruction::Call { src } => numbers(41, number(src), 0),
         Instruction::Ret => numbers(42, 0, 0),
     }
 }
 
-// The instruction of these numbers. A register's number counts by its low bits, a kind above 42 as 42.
-pub fn unpack(kind: u8, first: u8, second: u8) -> Instruction
-    ensures { result ≡ (kind_at kind).made first second }
+// The instruction of these numbers, or none.
+pub fn instruction(kind: u8, first: u8, second: u8) -> Option<Instruction>
+    ensures { result ≡ instruction_of kind first second }
 {
-    let p = GPR::from_low_bits(first);
-    let q = GPR::from_low_bits(second);
-    let sp = SPR::from_low_bits(first);
-    let sq = SPR::from_low_bits(second);
-    let dp = DR::from_low_bits(first);
-    let dq = DR::from_low_bits(second);
-    match kind {
+    let ins = match kind {
         // Core
         0 => Instruction::Nop,
         1 => Instruction::Hlt,
-        2 => Instruction::Mov { dest: p, src: q },
-        3 => Instruction::DMov { dest: dp, src: dq },
+        2 => Instruction::Mov {
+            dest: register(first)?,
+            src: register(second)?,
+        },
+        3 => Instruction::DMov {
+            dest: register(first)?,
+            src: register(second)?,
+        },
 
         // Immediate loads
         4 => Instruction::Putl {
-            reg: p,
+            reg: register(first)?,
             imm: second,
         },
         5 => Instruction::Puth {
-            reg: p,
+            reg: register(first)?,
             imm: second,
         },
 
         // Memory
-        6 => Instruction::Read { val: p, addr: q },
-        7 => Instruction::Write { addr: p, val: q },
+        6 => Instruction::Read {
+            val: register(first)?,
+            addr: register(second)?,
+        },
+        7 => Instruction::Write {
+            addr: register(first)?,
+            val: register(second)?,
+        },
         8 => Instruction::Spread {
-            val: p,
+            val: register(first)?,
             offset: second,
         },
         9 => Instruction::Spwrite {
             offset: first,
-            val: q,
+            val: register(second)?,
         },
-        10 => Instruction::DRead { val: dp, addr: q },
-        11 => Instruction::DWrite { addr: p, val: dq },
-        12 => Instruction::Push { val: p },
-        13 => Instruction::Pop { val: p },
+        10 => Instruction::DRead {
+            val: register(first)?,
+            addr: register(second)?,
+        },
+        11 => Instruction::DWrite {
+            addr: register(first)?,
+            val: register(second)?,
+        },
+        12 => Instruction::Push {
+            val: register(first)?,
+        },
+        13 => Instruction::Pop {
+            val: register(first)?,
+        },
 
         // Special-purpose registers
-        14 => Instruction::Movso { dest: p, src: sq },
-        15 => Instruction::Movsi { dest: sp, src: q },
-        16 => Instruction::Spadd { val: p },
+        14 => Instruction::Movso {
+            dest: register(first)?,
+            src: register(second)?,
+        },
+        15 => Instruction::Movsi {
+            dest: register(first)?,
+            src: register(second)?,
+        },
+        16 => Instruction::Spadd {
+            val: register(first)?,
+        },
         17 => Instruction::Spinc,
         18 => Instruction::Spdec,
 
         // Bit manipulation
-        19 => Instruction::Not { reg: p },
-        20 => Instruction::And { reg: p, val: q },
-        21 => Instruction::Booland { reg: p, val: q },
-        22 => Instruction::Or { reg: p, val: q },
-        23 => Instruction::Xor { reg: p, val: q },
-        24 => Instruction::Shl { reg: p, val: q },
-        25 => Instruction::Shr { reg: p, val: q },
-        26 => Instruction::Bitset { reg: p, idx: q },
+        19 => Instruction::Not {
+            reg: register(first)?,
+        },
+        20 => Instruction::And {
+            reg: register(first)?,
+            val: register(second)?,
+        },
+        21 => Instruction::Booland {
+            reg: register(first)?,
+            val: register(second)?,
+        },
+        22 => Instruction::Or {
+            reg: register(first)?,
+            val: register(second)?,
+        },
+        23 => Instruction::Xor {
+            reg: register(first)?,
+            val: register(second)?,
+        },
+        24 => Instruction::Shl {
+            reg: register(first)?,
+            val: register(second)?,
+        },
+        25 => Instruction::Shr {
+            reg: register(first)?,
+            val: register(second)?,
+        },
+        26 => Instruction::Bitset {
+            reg: register(first)?,
+            idx: register(second)?,
+        },
 
         // General-purpose arithmetic
-        27 => Instruction::Neg { reg: p },
-        28 => Instruction::Inc { reg: p },
-        29 => Instruction::Dec { reg: p },
-        30 => Instruction::Add { reg: p, val: q },
-        31 => Instruction::Sub { reg: p, val: q },
-        32 => Instruction::Mul { reg: p, val: q },
+        27 => Instruction::Neg {
+            reg: register(first)?,
+        },
+        28 => Instruction::Inc {
+            reg: register(first)?,
+        },
+        29 => Instruction::Dec {
+            reg: register(first)?,
+        },
+        30 => Instruction::Add {
+            reg: register(first)?,
+            val: register(second)?,
+        },
+        31 => Instruction::Sub {
+            reg: register(first)?,
+            val: register(second)?,
+        },
+        32 => Instruction::Mul {
+            reg: register(first)?,
+            val: register(second)?,
+        },
 
         // Comparison
         33 => Instruction::Inv,
-        34 => Instruction::Eqz { reg: p },
-        35 => Instruction::Eq { left: p, right: q },
-        36 => Instruction::Gt { left: p, right: q },
-        37 => Instruction::Gteq { left: p, right: q },
+        34 => Instruction::Eqz {
+            reg: register(first)?,
+        },
+        35 => Instruction::Eq {
+            left: register(first)?,
+            right: register(second)?,
+        },
+        36 => Instruction::Gt {
+            left: register(first)?,
+            right: register(second)?,
+        },
+        37 => Instruction::Gteq {
+            left: register(first)?,
+            right: register(second)?,
+        },
 
         // Branching
         38 => Instruction::Jmpoff { offset: first },
         39 => Instruction::Cjmpoff { offset: first },
-        40 => Instruction::Cjmp { src: p },
-        41 => Instruction::Call { src: p },
-        _ => Instruction::Ret,
-    }
+        40 => Instruction::Cjmp {
+            src: register(first)?,
+        },
+        41 => Instruction::Call {
+            src: register(first)?,
+        },
+        42 => Instruction::Ret,
+        _ => return None,
+    };
+    Some(ins)
 }

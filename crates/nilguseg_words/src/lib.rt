@@ -6,7 +6,7 @@ ghost use Rattle.std.specs.Prelude.{◌≡◌};
 ghost use Rattle.instructions.specs.Decoding.{decode_of};
 ghost use Rattle.nilguseg_words.specs.Instruction.{decoded_number, encoded_number};
 
-use crate::instruction::{first_values, pack, second_values, unpack};
+use crate::instruction::{instruction, pack};
 use instructions::Instruction;
 
 mod instruction;
@@ -27,11 +27,8 @@ pub extern "C" fn nilguseg_decode(word: u16) -> u32
 pub extern "C" fn nilguseg_encode(kind: u8, first: u8, second: u8) -> u32
     ensures { result ≡ encoded_number kind first second }
 {
-    if first_values(kind) <= first as u16 {
-        return 0x10000;
+    match instruction(kind, first, second) {
+        Some(ins) => ins.encode() as u32,
+        None => 0x10000,
     }
-    if second_values(kind) <= second as u16 {
-        return 0x10000;
-    }
-    unpack(kind, first, second).encode() as u32
 }
