@@ -1,27 +1,27 @@
 -- What every access leads to, a cycle and a run lead to: a relation of the log and memory, or what stands in its place, before and after. So
 -- marks only grow and the lengths never change.
-use Rattle.std.specs.Prelude.{◌≡◌, ℕ, zero, suc, ◌+◌, eqb, ltb, List, [], ◌++◌, length}
+use Rattle.std.specs.Prelude.{◌≡◌, ℕ, zero, suc, ◌+◌, Bool, eqb, ltb, List, [], ◌++◌, length, Result, Ok, Err}
 use mathlib.Core.List.{append-nil, append_assoc}
 use mathlib.Core.Path.{refl, ◌∙◌}
 use Rattle.emulator.specs.Core.{is_halted}
-use Rattle.emulator.specs.Log.{read_log, reply_log, Logged, is_full}
+use Rattle.emulator.specs.Log.{read_log, reply_log, Logged}
 use Rattle.emulator.specs.Memory.{Memory, Accessed, read_of, write_of, Kept}
-use Rattle.emulator.specs.Machine.{Access, none, load, store, stop, Plan, Store, memory_store, read_reply, write_reply, make_of, Turn, carry_out, on_fetch, advanced, cycle_of, refusal_of, step_of, Ran, is_stepped, next_of, Setting, run_from}
+use Rattle.emulator.specs.Machine.{Access, none, load, store, stop, Plan, Store, memory_store, read_reply, write_reply, make_of, Turn, carry_out, on_fetch, advanced, cycle_of, refusal_of, step_of, Ran, is_stepped, next_of, run_until}
 use Rattle.emulator.specs.declared.core_record.Core.{Core}
 use Rattle.emulator.specs.declared.log.Purpose.{Purpose}
-use Rattle.emulator.specs.declared.memory.Read.{Read}
-use Rattle.emulator.specs.declared.memory.Write.{Write}
+use Rattle.emulator.specs.declared.refusal.LogEnd.{LogEnd}
+use Rattle.emulator.specs.declared.stop.Stop.{Stop}
 use Rattle.instructions.proofs.Cases.{if_elim}
 use Rattle.emulator.proofs.Marks.{kept_read, kept_write}
 
 -- what is logged of an access, by its reply
-pub read_replied : (a : ℕ) (x : Read) → reply_log (read_reply a x) ≡ read_log Purpose.Read a x
-read_replied a (Read.Word w) = refl
-read_replied a (Read.Stopped s) = refl
+pub read_replied : (a : ℕ) (x : Result ℕ Stop) → reply_log (read_reply a x) ≡ read_log Purpose.Read a x
+read_replied a (Ok w) = refl
+read_replied a (Err s) = refl
 
-pub write_replied : (x : Write) → reply_log (write_reply x) ≡ []
-write_replied Write.Done = refl
-write_replied (Write.Stopped s) = refl
+pub write_replied : (x : Result (Unit {0}) Stop) → reply_log (write_reply x) ≡ []
+write_replied (Ok u) = refl
+write_replied (Err s) = refl
 
 -- a relation that holds over each access, and over one after another
 pub record Leads {S : Type 0} (store : Store S) (P : List ℕ → S → List ℕ → S → Type 0) : Type 0 where
@@ -44,9 +44,9 @@ module _ {S : Type 0} (on : Store S) {P : List ℕ → S → List ℕ → S → 
 
   pub on_fetch_leads : (more : ℕ → S → Logged (Turn S)) (c : Core) (l : List ℕ) (m : S)
       → ((w : ℕ) → P l m (l ++ (more w m).log) (more w m).result.memory)
-      → (r : Read) → P l m (l ++ (on_fetch more c m r).log) (on_fetch more c m r).result.memory
-  on_fetch_leads more c l m h (Read.Word w) = h w
-  on_fetch_leads more c l m h (Read.Stopped s) = kept_log l (leads.same l m)
+      → (r : Result ℕ Stop) → P l m (l ++ (on_fetch more c m r).log) (on_fetch more c m r).result.memory
+  on_fetch_leads more c l m h (Ok w) = h w
+  on_fetch_leads more c l m h (Err s) = kept_log l (leads.same l m)
 
   pub next_leads : (more : Core → S → List ℕ → Logged (Ran S)) (n : ℕ) (l : List ℕ)
       → ((c : Core) (m : S) (k : List ℕ) → P k m (more c m k).log (more c m k).result.memory) → (t : Logged (Turn S))
@@ -65,17 +65,17 @@ module _ {S : Type 0} (on : Store S) {P : List ℕ → S → List ℕ → S → 
         (leads.next (leads.read Purpose.Fetch l m c.ip)
         (on_fetch_leads (λ w. carry_out on (plan (advanced c) w)) c _ _ (λ w. make_leads _ (plan (advanced c) w).access _) (on.read m c.ip).answer))
 
-    pub run_leads : (given : Setting) (k n : ℕ) (c : Core) (m : S) (l : List ℕ)
-        → P l m (run_from on plan given k n c m l).log (run_from on plan given k n c m l).result.memory
-    unfolding run_from
-    run_leads given zero n c m l =
+    pub run_leads : (over : List ℕ → Bool) (why : LogEnd) (k n : ℕ) (c : Core) (m : S) (l : List ℕ)
+        → P l m (run_until on plan over why k n c m l).log (run_until on plan over why k n c m l).result.memory
+    unfolding run_until
+    run_leads over why zero n c m l =
         if_elim (λ (r : Logged (Ran S)). P l m r.log r.result.memory) (is_halted c) (λ _. leads.same l m) (λ _. leads.same l m)
-    run_leads given (suc k) n c m l =
+    run_leads over why (suc k) n c m l =
         if_elim After (is_halted c)
         (λ _. leads.same l m)
-        (λ _. if_elim After (is_full given.room (length l))
+        (λ _. if_elim After (over l)
         (λ _. leads.same l m)
-        (λ _. leads.next (cycle_leads l c m) (next_leads (run_from on plan given k (n + 1)) n l (run_leads given k (n + 1)) (cycle_of on plan c m))))
+        (λ _. leads.next (cycle_leads l c m) (next_leads (run_until on plan over why k (n + 1)) n l (run_leads over why k (n + 1)) (cycle_of on plan c m))))
       where
         After : Logged (Ran S) → Type 0
         After r = P l m r.log r.result.memory
@@ -97,12 +97,12 @@ kept_next p q =
 read_keeps : (m : Memory) (a : ℕ) → Kept m (read_of m a).memory
 unfolding read_of
 read_keeps m a =
-    if_elim (λ (x : Accessed Memory Read). Kept m x.memory) (ltb a (length m.words)) (λ _. kept_read m.words m.marks a) (λ _. kept_same m)
+    if_elim (λ (x : Accessed Memory (Result ℕ Stop)). Kept m x.memory) (ltb a (length m.words)) (λ _. kept_read m.words m.marks a) (λ _. kept_same m)
 
 write_keeps : (m : Memory) (a v : ℕ) → Kept m (write_of m a v).memory
 unfolding write_of
 write_keeps m a v =
-    if_elim (λ (x : Accessed Memory Write). Kept m x.memory) (ltb a (length m.words)) (λ _. kept_write m.words m.marks a v) (λ _. kept_same m)
+    if_elim (λ (x : Accessed Memory (Result (Unit {0}) Stop)). Kept m x.memory) (ltb a (length m.words)) (λ _. kept_write m.words m.marks a v) (λ _. kept_same m)
 
 pub kept_leads : Leads memory_store (λ l m l' m'. Kept m m')
 kept_leads = record { same = λ l m. kept_same m; next = kept_next; read = λ p l m a. read_keeps m a; write = λ l m a v. write_keeps m a v }

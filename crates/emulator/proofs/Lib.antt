@@ -2,7 +2,9 @@ pub mod Fill
 pub mod Stores
 pub mod Marks
 pub mod Laws
-pub mod Logs
-pub mod Accesses
-pub mod Keeps
+pub mod Cycles
 pub mod Runs
+pub mod Logs
+pub mod Keeps
+pub mod Sizes
+pub mod Whole

@@ -1,8 +1,8 @@
 -- The log of a run's reads (document 02, CR 2).
-use Rattle.std.specs.Prelude.{ℕ, ◌+◌, ◌-◌, ◌*◌, ◌^◌, Bool, false, List, [], ◌∷◌, ◌++◌, length, drop, nat_lt}
-use Rattle.emulator.specs.declared.effects.Reply.{Reply}
+use Rattle.std.specs.Prelude.{ℕ, ◌+◌, ◌-◌, ◌*◌, ◌^◌, Bool, false, List, [], ◌∷◌, ◌++◌, length, drop, nat_lt, Result, Ok, Err, Option, Some, None, if◌then◌else◌}
 use Rattle.emulator.specs.declared.log.Purpose.{Purpose}
-use Rattle.emulator.specs.declared.memory.Read.{Read}
+use Rattle.emulator.specs.declared.refusal.LogEnd.{LogEnd}
+use Rattle.emulator.specs.declared.stop.Stop.{Stop}
 
 -- bit 16 is set for a fetch
 abbrev pub purpose_bit : Purpose → ℕ
@@ -21,15 +21,21 @@ abbrev pub entry_of : Purpose → ℕ → ℕ → List ℕ
 entry_of p a w = address_word p a ∷ value_word w ∷ []
 
 -- the log words of a read by its answer: a read that stops isn't logged
-abbrev pub read_log : Purpose → ℕ → Read → List ℕ
-read_log p a (Read.Word w) = entry_of p a w
-read_log p a (Read.Stopped s) = []
+abbrev pub read_log : Purpose → ℕ → Result ℕ Stop → List ℕ
+read_log p a (Ok w) = entry_of p a w
+read_log p a (Err s) = []
+
+-- what an access comes to: nothing was to be read, a word was read at an address, or a stop
+pub data Reply : Type 0 where
+  done : Reply
+  word : ℕ → ℕ → Reply
+  stopped : Stop → Reply
 
 -- and by the reply to an access
 abbrev pub reply_log : Reply → List ℕ
-reply_log Reply.Done = []
-reply_log (Reply.Word a w) = entry_of Purpose.Read a w
-reply_log (Reply.Stopped s) = []
+reply_log Reply.done = []
+reply_log (Reply.word a w) = entry_of Purpose.Read a w
+reply_log (Reply.stopped s) = []
 
 -- what is done, with the log words of the reads that it made
 pub record Logged (A : Type 0) : Type 0 where
@@ -48,6 +54,10 @@ pub data Room : Type 0 where
 abbrev pub is_full : Room → ℕ → Bool
 is_full none k = false
 is_full (words n) k = nat_lt (n - k) 4
+
+-- which end of a run its log is, if it ends the run
+abbrev pub end_by_log : Bool → LogEnd → Option LogEnd
+end_by_log over why = if over then Some why else None
 
 -- what becomes of the buffer, and how many log words it holds: without a log it stays as it is, else the log stands at its front, and it is
 -- unchanged past it

@@ -12,14 +12,14 @@ use Rattle.execute.specs.Word.{add_word, sub_word}
 use Rattle.execute.specs.declared.effect.Effect.{Effect}
 use Rattle.execute.specs.declared.effect.Effect.TheVariants as effect
 use Rattle.emulator.specs.Core.{write_gpr, write_spr, is_halted}
-use Rattle.emulator.specs.Log.{read_log, reply_log, Logged, logged, Room, words, is_full, Written, written_of}
+use Rattle.emulator.specs.Log.{read_log, Reply, reply_log, Logged, logged, Room, words, is_full, Written, written_of}
 use Rattle.emulator.specs.Memory.{Memory, lent, refused_length, Accessed, accessed, read_of, write_of}
-use Rattle.emulator.specs.Outcome.{Outcome, stepped, halted, limit, fault, refused, ended, stop_of}
-use Rattle.emulator.specs.declared.effects.Reply.{Reply}
+use Rattle.emulator.specs.Outcome.{Outcome, stepped, halted, limit, fault, refused, ended, stop_of, refusal_number, log_end_number}
 use Rattle.emulator.specs.declared.core_record.Core.{Core}
 use Rattle.emulator.specs.declared.log.Purpose.{Purpose}
-use Rattle.emulator.specs.declared.memory.Read.{Read}
-use Rattle.emulator.specs.declared.memory.Write.{Write}
+use Rattle.emulator.specs.declared.refusal.Refusal.{Refusal}
+use Rattle.emulator.specs.declared.refusal.LogEnd.{LogEnd}
+use Rattle.emulator.specs.declared.refusal.LogEnd.TheVariants.{Full}
 use Rattle.emulator.specs.declared.stop.Stop.{Stop}
 use Rattle.emulator.specs.declared.stop.Stop.TheVariants as stops
 
@@ -95,41 +95,41 @@ loaded c r up w = write_spr (write_gpr c r w) SP (add_word c.sp up)
 -- a load is replied to by a word or a stop, a store by done or a stop
 abbrev pub settle_of : Core → Access → Reply → Settled
 settle_of c none x = settled stepped c
-settle_of c (load a r up) Reply.Done = settled stepped c
-settle_of c (load a r up) (Reply.Word b w) = settled stepped (loaded c r up w)
-settle_of c (load a r up) (Reply.Stopped s) = settled (stop_of s) c
-settle_of c (store a v) Reply.Done = settled stepped c
-settle_of c (store a v) (Reply.Word b w) = settled stepped c
-settle_of c (store a v) (Reply.Stopped s) = settled (stop_of s) c
+settle_of c (load a r up) Reply.done = settled stepped c
+settle_of c (load a r up) (Reply.word b w) = settled stepped (loaded c r up w)
+settle_of c (load a r up) (Reply.stopped s) = settled (stop_of s) c
+settle_of c (store a v) Reply.done = settled stepped c
+settle_of c (store a v) (Reply.word b w) = settled stepped c
+settle_of c (store a v) (Reply.stopped s) = settled (stop_of s) c
 settle_of c (stop s) x = settled (stop_of s) c
 
 -- What an access does (One step; Stops).
 
 -- where words are read and written: memory, or what stands in its place
 pub record Store (S : Type 0) : Type 0 where
-  pub read : S → ℕ → Accessed S Read
-  pub write : S → ℕ → ℕ → Accessed S Write
+  pub read : S → ℕ → Accessed S (Result ℕ Stop)
+  pub write : S → ℕ → ℕ → Accessed S (Result (Unit {0}) Stop)
 
 abbrev pub memory_store : Store Memory
 memory_store = record { read = read_of; write = write_of }
 
-abbrev pub read_reply : ℕ → Read → Reply
-read_reply a (Read.Word w) = Reply.Word a w
-read_reply a (Read.Stopped s) = Reply.Stopped s
+abbrev pub read_reply : ℕ → Result ℕ Stop → Reply
+read_reply a (Ok w) = Reply.word a w
+read_reply a (Err s) = Reply.stopped s
 
-abbrev pub write_reply : Write → Reply
-write_reply Write.Done = Reply.Done
-write_reply (Write.Stopped s) = Reply.Stopped s
+abbrev pub write_reply : Result (Unit {0}) Stop → Reply
+write_reply (Ok u) = Reply.done
+write_reply (Err s) = Reply.stopped s
 
 abbrev pub replied : {S A : Type 0} → (A → Reply) → Accessed S A → Accessed S Reply
 replied reply x = accessed (reply x.answer) x.memory
 
 -- the access made
 abbrev pub make_of : {S : Type 0} → Store S → Access → S → Accessed S Reply
-make_of on none m = accessed Reply.Done m
+make_of on none m = accessed Reply.done m
 make_of on (load a r up) m = replied (read_reply a) (on.read m a)
 make_of on (store a v) m = replied write_reply (on.write m a v)
-make_of on (stop s) m = accessed Reply.Done m
+make_of on (stop s) m = accessed Reply.done m
 
 -- What a step and a run do (One step; The run).
 
@@ -152,11 +152,11 @@ abbrev pub carry_out : {S : Type 0} → Store S → Plan → S → Logged (Turn 
 carry_out on p m = settled_turn p (make_of on p.access m)
 
 -- after a fetch: the plan of the word; a fetch that stops leaves the core as it is
-abbrev pub on_fetch : {S : Type 0} → (ℕ → S → Logged (Turn S)) → Core → S → Read → Logged (Turn S)
-on_fetch more c m (Read.Word w) = more w m
-on_fetch more c m (Read.Stopped s) = logged (turn (stop_of s) c m) []
+abbrev pub on_fetch : {S : Type 0} → (ℕ → S → Logged (Turn S)) → Core → S → Result ℕ Stop → Logged (Turn S)
+on_fetch more c m (Ok w) = more w m
+on_fetch more c m (Err s) = logged (turn (stop_of s) c m) []
 
-abbrev pub after_fetch : {S : Type 0} → (ℕ → S → Logged (Turn S)) → Core → Accessed S Read → Logged (Turn S)
+abbrev pub after_fetch : {S : Type 0} → (ℕ → S → Logged (Turn S)) → Core → Accessed S (Result ℕ Stop) → Logged (Turn S)
 after_fetch more c x =
     let t = on_fetch more c x.memory x.answer in
     logged t.result (read_log Purpose.Fetch c.ip x.answer ++ t.log)
@@ -168,6 +168,11 @@ advanced c = write_spr c IP (add_word c.ip 1)
 -- the host tests, in number order: 1, memory length not 1..65,536; 2, marks length differs from it; 0, no test refuses
 unfoldable pub refusal_of : Memory → ℕ
 refusal_of m = if refused_length (length m.words) then 1 else (if nat_eq (length m.marks) (length m.words) then 0 else 2)
+
+-- the number by the code's answer
+abbrev pub test_number : Result (Unit {0}) Refusal → ℕ
+test_number (Ok u) = 0
+test_number (Err r) = refusal_number r
 
 -- what a run leaves: its end, the steps counted, the core, and memory
 pub record Ran (S : Type 0) : Type 0 where
@@ -202,6 +207,10 @@ pub record Setting : Type 0 where
 abbrev pub setting : Room → Setting
 setting room = record { room = room }
 
+-- whether the log is full, once it is l
+abbrev pub full_in : Setting → List ℕ → Bool
+full_in given l = is_full given.room (length l)
+
 -- no log; and a log that is kept in a buffer
 abbrev pub plain : Setting
 plain = setting Room.none
@@ -215,14 +224,19 @@ module _ {S : Type 0} (on : Store S) (plan : Core → ℕ → Plan) where
   unfoldable pub cycle_of : Core → S → Logged (Turn S)
   cycle_of c m = after_fetch (λ w. carry_out on (plan (advanced c) w)) c (on.read m c.ip)
 
-  -- the run from a core, k steps left before the limit, n counted and l logged: halt first, then the limit, then the room, then a step
-  unfoldable pub run_from : Setting → ℕ → ℕ → Core → S → List ℕ → Logged (Ran S)
-  run_from given zero n c m l = if is_halted c then logged (ran halted n c m) l else logged (ran limit n c m) l
-  run_from given (suc k) n c m l =
-      let rest = next_of (run_from given k (n + 1)) n l (cycle_of c m) in
+  -- the run from a core, k steps left before the limit, n counted and l logged: halt first, then the limit, then whether the log is over,
+  -- which is the end of that name, then a step
+  unfoldable pub run_until : (List ℕ → Bool) → LogEnd → ℕ → ℕ → Core → S → List ℕ → Logged (Ran S)
+  run_until over why zero n c m l = if is_halted c then logged (ran halted n c m) l else logged (ran limit n c m) l
+  run_until over why (suc k) n c m l =
+      let rest = next_of (run_until over why k (n + 1)) n l (cycle_of c m) in
       if is_halted c
       then logged (ran halted n c m) l
-      else (if is_full given.room (length l) then logged (ran (ended 30) n c m) l else rest)
+      else (if over l then logged (ran (ended (log_end_number why)) n c m) l else rest)
+
+  -- the run in a setting, which is over where its log is full
+  abbrev pub run_from : Setting → ℕ → ℕ → Core → S → List ℕ → Logged (Ran S)
+  run_from given = run_until (full_in given) Full
 
 -- what a run leaves with a buffer lent for its log: the number of log words, and the buffer
 pub record RanLogged : Type 0 where

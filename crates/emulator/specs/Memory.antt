@@ -1,9 +1,7 @@
 -- Memory with its marks, and what an access to it comes to (document 01, Records, One step and Stops).
-use Rattle.std.specs.Prelude.{◌≡◌, ℕ, ◌+◌, ◌/◌, ◌%◌, Bool, true, List, length, ◌==◌, nat_eq, nat_lt, slice_index, slice_set, if◌then◌else◌}
-use Rattle.emulator.specs.declared.memory.Read.{Read}
-use Rattle.emulator.specs.declared.memory.Read.TheVariants.{Word}
-use Rattle.emulator.specs.declared.memory.Write.{Write}
-use Rattle.emulator.specs.declared.memory.Write.TheVariants.{Done}
+use Rattle.std.specs.Prelude.{◌≡◌, ℕ, ◌+◌, ◌/◌, ◌%◌, Bool, true, List, length, ◌==◌, nat_eq, nat_lt, slice_index, slice_set, if◌then◌else◌, Result, Ok, Err}
+use Rattle.emulator.specs.declared.refusal.Refusal.{Refusal}
+use Rattle.emulator.specs.declared.stop.Stop.{Stop}
 use Rattle.emulator.specs.declared.stop.Stop.TheVariants.{OutOfRange}
 
 -- the lent list of words, and that of their marks
@@ -17,6 +15,9 @@ lent ws ms = record { words = ws; marks = ms }
 -- host test 1: memory is a list of 1 to 65,536 words; whether a length is another
 unfoldable pub refused_length : ℕ → Bool
 refused_length n = if n == 0 then true else nat_lt 65536 n
+
+abbrev pub length_test : ℕ → Result (Unit {0}) Refusal
+length_test n = if refused_length n then Err Refusal.MemoryLength else Ok tt
 
 -- whether a mark includes 1, read at an address that this run hadn't yet written; and whether it includes 2, written: 1 or 0
 abbrev pub was_read : ℕ → ℕ
@@ -50,17 +51,17 @@ accessed x m = record { answer = x; memory = m }
 
 -- a read, which a fetch is too, gives the word, a write puts one. An address at or past the length is out of range, which stops, and gets no
 -- mark.
-unfoldable pub read_of : Memory → ℕ → Accessed Memory Read
+unfoldable pub read_of : Memory → ℕ → Accessed Memory (Result ℕ Stop)
 read_of m a =
     if nat_lt a (length m.words)
-    then accessed (Word (slice_index m.words a)) (lent m.words (mark_read m.marks a))
-    else accessed (Read.Stopped (OutOfRange a)) m
+    then accessed (Ok (slice_index m.words a)) (lent m.words (mark_read m.marks a))
+    else accessed (Err (OutOfRange a)) m
 
-unfoldable pub write_of : Memory → ℕ → ℕ → Accessed Memory Write
+unfoldable pub write_of : Memory → ℕ → ℕ → Accessed Memory (Result (Unit {0}) Stop)
 write_of m a v =
     if nat_lt a (length m.words)
-    then accessed Done (lent (slice_set m.words a v) (mark_write m.marks a))
-    else accessed (Write.Stopped (OutOfRange a)) m
+    then accessed (Ok tt) (lent (slice_set m.words a v) (mark_write m.marks a))
+    else accessed (Err (OutOfRange a)) m
 
 -- a bit that is set in the first marks is set in the second
 abbrev pub Below : (ℕ → ℕ) → List ℕ → List ℕ → Type 0

@@ -1,28 +1,27 @@
--- What the parts of the loop promise about the log. Nothing here says what a log is: the parts' promises are proved to come to the run's.
-use Rattle.std.specs.Prelude.{ℕ, ◌+◌, Bool, true, false, List, [], ◌++◌, length}
+-- What the parts of a run promise. Nothing here says what an access or a log is: their promises are proved to come to the run's.
+use Rattle.std.specs.Prelude.{ℕ, ◌+◌, ◌≡◌, ◌<◌, ◌≤◌, List, [], length, nat_lt, if◌then◌else◌, refl, Result, Ok, Err}
+use Rattle.std.proofs.Common.{arith, add-zero}
 use Rattle.std.proofs.lemmas.List.Edits.{sets}
-use Rattle.emulator.specs.Log.{entry_of, Room, none, words, Written, written}
-use Rattle.emulator.specs.declared.effects.Reply.{Reply}
+use Rattle.emulator.specs.Log.{entry_of, Written, written}
 use Rattle.emulator.specs.declared.log.Purpose.{Purpose}
-use Rattle.emulator.specs.declared.log.Reads.{Reads}
+use Rattle.emulator.specs.declared.stop.Stop.{Stop}
+use Rattle.emulator.specs.declared.stop.Stop.TheVariants.{OutOfRange}
 
--- the reads of a cycle, of the word that it fetches and the reply to its access, and their log words, the fetch being at ip
-abbrev pub reads_of : ℕ → Reply → Reads
-reads_of w Reply.Done = Reads.Fetch w
-reads_of w (Reply.Word a v) = Reads.FetchAndLoad w a v
-reads_of w (Reply.Stopped s) = Reads.Fetch w
+-- the place of an address in a memory of so many words
+abbrev pub place_of : ℕ → ℕ → Result ℕ Stop
+place_of size a = if nat_lt a size then Ok a else Err (OutOfRange a)
 
-abbrev pub reads_log : ℕ → Reads → List ℕ
-reads_log ip Reads.None = []
-reads_log ip (Reads.Fetch w) = entry_of Purpose.Fetch ip w
-reads_log ip (Reads.FetchAndLoad w a v) = entry_of Purpose.Fetch ip w ++ entry_of Purpose.Read a v
+-- what becomes of a buffer and the count of its log words when a read is logged: nothing, if it has no room
+abbrev pub pushed : Purpose → ℕ → ℕ → Written → Written
+pushed p a w x = if nat_lt (length x.buffer) (x.count + 2) then x else written (x.count + 2) (sets x.buffer x.count (entry_of p a w))
 
--- the room, by whether the run logs and how long the buffer is
-abbrev pub room_of : Bool → ℕ → Room
-room_of false n = none
-room_of true n = words n
+-- a buffer b₀ that had k₀ log words is b with k, now that l more are logged: they stand there, unless they don't fit
+pub record Logs (b₀ : List ℕ) (k₀ : ℕ) (b : List ℕ) (k : ℕ) (l : List ℕ) : Type 0 where
+  pub size : length b ≡ length b₀
+  pub count : k₀ + length l ≤ length b₀ → k ≡ k₀ + length l
+  pub stored : k₀ + length l ≤ length b₀ → b ≡ sets b₀ k₀ l
+  pub past : length b₀ < k₀ + length l → length b₀ < k + 2
 
--- what becomes of a buffer that holds k log words, where l more are logged
-abbrev pub appended : Bool → ℕ → List ℕ → List ℕ → Written
-appended false k l b = written k b
-appended true k l b = written (k + length l) (sets b k l)
+-- nothing is logged at first
+pub logs_start : (b : List ℕ) (k : ℕ) → Logs b k b k []
+logs_start b k = record { size = refl; count = λ _. rw add-zero; stored = λ _. refl; past = λ l. omega arith }

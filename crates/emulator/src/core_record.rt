@@ -4,14 +4,16 @@ ghost use Rattle.emulator.specs.Core.{new_core, read_gpr, write_gpr, read_spr, w
 ghost use Rattle.emulator.specs.Log.{written};
 ghost use Rattle.emulator.specs.Memory.{lent};
 ghost use Rattle.emulator.specs.Outcome.{answer_of, end_of, answered_of};
-ghost use Rattle.emulator.specs.Machine.{plan_of, turn, refusal_of, step_of, ran, ran_logged, run_of, run_logged_of};
+ghost use Rattle.emulator.specs.Machine.{plan_of, turn, refusal_of, test_number, step_of, ran, ran_logged, run_of, run_logged_of};
 
-use crate::cycle::{End, LoggedRun, turns};
-use crate::memory::{clear, refuses_length};
+use crate::cycle::{End, turns};
+use crate::logging::LoggedMemory;
+use crate::memory::MarkedMemory;
+use crate::refusal::{Refusal, check_length};
 use crate::stop::Stop;
 use instructions::{GPR, Register, SPR};
 
-#[derive(Clone, Copy)]
+#[derive(Clone, Copy, Debug, PartialEq, Eq)]
 pub struct Core {
     pub gprs: [u16; 8],
     pub ip: u16,
@@ -20,37 +22,56 @@ pub struct Core {
     pub ef: u16,
 }
 
-// What a step answers. `Refused` has the number of the host test.
-#[derive(Clone, Copy)]
+// What a step answers.
+#[derive(Clone, Copy, Debug, PartialEq, Eq)]
 pub enum Answer {
     Stepped,
     Halted,
     Fault(Stop),
-    Refused(u8),
+    Refused(Refusal),
 }
 
-#[derive(Clone, Copy)]
+#[derive(Clone, Copy, Debug, PartialEq, Eq)]
 pub struct Step {
     pub core: Core,
     pub answer: Answer,
 }
 
 // A run: the core that it leaves, the steps counted, and its end.
-#[derive(Clone, Copy)]
+#[derive(Clone, Copy, Debug, PartialEq, Eq)]
 pub struct Run {
     pub core: Core,
     pub steps: u32,
     pub end: End,
 }
 
-// The host tests: the number of the first that refuses, or 0.
-fn refusal(memory: &[u16], marks: &[u8]) -> u8
-    ensures { result ≡ refusal_of (lent memory.now marks.now) }
+// A run with a log, and the number of its log words.
+#[derive(Clone, Copy, Debug, PartialEq, Eq)]
+pub struct LoggedRun {
+    pub run: Run,
+    pub logged: usize,
+}
+
+// The host tests, in number order.
+fn check(memory: &[u16], marks: &[u8]) -> Result<(), Refusal>
+    ensures { test_number result ≡ refusal_of (lent memory.now marks.now) }
 {
-    if refuses_length(memory.len()) {
-        return 1;
+    check_length(memory.len())?;
+    if marks.len() != memory.len() {
+        return Err(Refusal::MarksLength);
     }
-    if marks.len() == memory.len() { 0 } else { 2 }
+    Ok(())
+}
+
+// A run that a host test refuses.
+fn refused(core: Core, refusal: Refusal) -> Run
+    ensures { result ≡ record { core = core; steps = 0; end = End.Refused refusal } }
+{
+    Run {
+        core,
+        steps: 0,
+        end: End::Refused(refusal),
+    }
 }
 
 // What a step answers, from the count and the end of a run of one turn.
@@ -64,7 +85,7 @@ fn answered(steps: u32, end: End) -> Answer
         End::Halted => Answer::Halted,
         End::Limit => Answer::Stepped,
         End::Fault(stop) => Answer::Fault(stop),
-        End::Refused(number) => Answer::Refused(number),
+        End::Refused(refusal) => Answer::Refused(refusal),
         End::Log(_) => Answer::Stepped,
     }
 }
@@ -154,45 +175,36 @@ impl Core {
     pub fn step(self, memory: &mut [u16], marks: &mut [u8]) -> Step
         ensures { turn (answer_of result.answer) result.core (lent memory.new marks.new) ≡ step_of plan_of self (lent memory.old marks.old) }
     {
-        let refused = refusal(memory, marks);
-        if refused != 0 {
+        if let Err(refusal) = check(memory, marks) {
             return Step {
                 core: self,
-                answer: Answer::Refused(refused),
+                answer: Answer::Refused(refusal),
             };
         }
-        // no log, so that the buffer stays as it is
-        let mut unused = [0u32; 1];
-        let t = turns(self, memory, marks, 1, false, &mut unused);
-        let core = t.core;
-        let end = t.end;
-        let answer = answered(t.steps, end);
-        Step { core, answer }
+        let mut lent = MarkedMemory {
+            words: memory,
+            marks,
+        };
+        let run = turns(self, &mut lent, 1);
+        Step {
+            core: run.core,
+            answer: answered(run.steps, run.end),
+        }
     }
 
     // Runs the core: all marks are set to 0, then steps are made until it halts, the limit is reached, or a step faults.
     pub fn run(self, memory: &mut [u16], marks: &mut [u8], limit: u32) -> Run
         ensures { ran (end_of result.end) result.steps result.core (lent memory.new marks.new) ≡ run_of plan_of self (lent memory.old marks.old) limit }
     {
-        let refused = refusal(memory, marks);
-        if refused != 0 {
-            return Run {
-                core: self,
-                steps: 0,
-                end: End::Refused(refused),
-            };
+        if let Err(refusal) = check(memory, marks) {
+            return refused(self, refusal);
         }
-        clear(marks);
-        // no log, so that the buffer stays as it is
-        let mut unused = [0u32; 1];
-        let t = turns(self, memory, marks, limit, false, &mut unused);
-        let core = t.core;
-        let end = t.end;
-        Run {
-            core,
-            steps: t.steps,
-            end,
-        }
+        marks.fill(0);
+        let mut lent = MarkedMemory {
+            words: memory,
+            marks,
+        };
+        turns(self, &mut lent, limit)
     }
 
     // The run with a log of its reads, which is written to the front of the lent one. It also ends where fewer than four words are free.
@@ -203,18 +215,23 @@ impl Core {
         limit: u32,
         log: &mut [u32],
     ) -> LoggedRun
-        ensures { ran_logged (ran (end_of result.end) result.steps result.core (lent memory.new marks.new)) (written result.logged log.new) ≡ run_logged_of plan_of self (lent memory.old marks.old) limit log.old }
+        ensures { ran_logged (ran (end_of result.run.end) result.run.steps result.run.core (lent memory.new marks.new)) (written result.logged log.new) ≡ run_logged_of plan_of self (lent memory.old marks.old) limit log.old }
     {
-        let refused = refusal(memory, marks);
-        if refused != 0 {
-            return LoggedRun {
-                core: self,
-                steps: 0,
-                end: End::Refused(refused),
-                logged: 0,
-            };
+        if let Err(refusal) = check(memory, marks) {
+            let run = refused(self, refusal);
+            return LoggedRun { run, logged: 0 };
         }
-        clear(marks);
-        turns(self, memory, marks, limit, true, log)
+        marks.fill(0);
+        let mut lent = LoggedMemory {
+            words: memory,
+            marks,
+            log,
+            logged: 0,
+        };
+        let run = turns(self, &mut lent, limit);
+        LoggedRun {
+            run,
+            logged: lent.logged,
+        }
     }
 }

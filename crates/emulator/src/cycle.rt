@@ -1,199 +1,99 @@
-// One cycle and the loop of cycles. The loop takes the core apart once: its calls are lent the eight general registers as an array and
-// get the others by value, since a whole core by value is copied at each call.
-ghost use Rattle.std.specs.Prelude.{◌≡◌, [], length};
-ghost use Rattle.emulator.specs.Core.{core_of};
-ghost use Rattle.emulator.specs.Log.{reply_log, logged, written};
-ghost use Rattle.emulator.specs.Parts.{reads_log, room_of};
-ghost use Rattle.emulator.specs.Memory.{lent, accessed};
+// One cycle and the loop of cycles, on any store. The loop has the core in a variable of its own and lends it to each cycle.
+ghost use Rattle.std.specs.Prelude.{◌≡◌, ◌++◌, [], List, ℕ};
+ghost use Rattle.emulator.specs.Log.{logged};
 ghost use Rattle.emulator.specs.Outcome.{progress_of, end_of};
-ghost use Rattle.emulator.specs.Machine.{access_of, plan_of, memory_store, make_of, turn, carry_out, cycle_of, ran, ran_logged, in_buffer, setting, run_from};
+ghost use Rattle.emulator.specs.Machine.{access_of, after_of, planned, plan_of, turn, carry_out, cycle_of, ran, run_until};
 
-use crate::core_record::Core;
-use crate::effects::{Applied, Progress, Reply, apply, faulted};
-use crate::log::{Reads, is_full, log_reads, reads_of};
-use crate::memory::{Read, Write, fetch_word, read_word, write_word};
+use crate::core_record::{Core, Run};
+use crate::log::Purpose;
+use crate::refusal::{LogEnd, Refusal};
 use crate::stop::Stop;
+use crate::store::Store;
 use execute::{Effect, execute};
-use instructions::Instruction;
+use instructions::{Instruction, Register};
 
-// How a run ends. `Refused` has the number of the host test, `Log` that of an end by the log: 30, fewer than four of its words are free, or
-// 31, a replay's reads aren't its words.
-#[derive(Clone, Copy)]
+// How a run ends.
+#[derive(Clone, Copy, Debug, PartialEq, Eq)]
 pub enum End {
     Halted,
     Limit,
     Fault(Stop),
-    Refused(u8),
-    Log(u8),
+    Refused(Refusal),
+    Log(LogEnd),
 }
 
-// What a word leaves, once it is fetched: the special registers, what it comes to, and the reply to its access.
-#[derive(Clone, Copy)]
-struct Obeyed {
-    applied: Applied,
-    reply: Reply,
-}
-
-// What a cycle leaves: the same with its reads.
-#[derive(Clone, Copy)]
-struct Cycled {
-    applied: Applied,
-    reads: Reads,
-}
-
-// What a run leaves: the core, the steps counted, its end, and the number of its log words.
-#[derive(Clone, Copy)]
-pub struct LoggedRun {
-    pub core: Core,
-    pub steps: u32,
-    pub end: End,
-    pub logged: usize,
-}
-
-// Makes the access that an effect leaves to be made.
-fn access(effect: Effect, memory: &mut [u16], marks: &mut [u8]) -> Reply
-    requires { length marks.old ≡ length memory.old }
-    ensures { accessed result (lent memory.new marks.new) ≡ make_of memory_store (access_of effect) (lent memory.old marks.old) }
+// Changes the registers as the effect says, and makes its access.
+fn obey<S: Store>(core: &mut Core, effect: Effect, store: &mut S) -> Result<(), Stop>
+    ensures turn { turn (progress_of result) core.new (S.seen store.new) ≡ (carry_out S.store (planned (after_of core.old effect) (access_of effect)) (S.seen store.old)).result }
+    ensures noted { (start : S) (l : List ℕ) → S.Noted start store.old l → S.Noted start store.new (l ++ (carry_out S.store (planned (after_of core.old effect) (access_of effect)) (S.seen store.old)).log) }
 {
     match effect {
+        Effect::None => {}
+        Effect::Gpr(reg, value) => core.gprs[reg.encode() as usize] = value,
+        Effect::Ip(value) => core.ip = value,
+        Effect::Rp(value) => core.rp = value,
+        Effect::Sp(value) => core.sp = value,
+        Effect::Ef(value) => core.ef = value,
+        Effect::Call(address) => {
+            core.rp = core.ip;
+            core.ip = address;
+        }
         Effect::Load {
             address,
-            into: _,
-            raise: _,
-        } => match read_word(memory, marks, address) {
-            Read::Word(word) => Reply::Word { address, word },
-            Read::Stopped(stop) => Reply::Stopped(stop),
-        },
+            into,
+            raise,
+        } => {
+            let word = store.read(Purpose::Read, address)?;
+            core.gprs[into.encode() as usize] = word;
+            core.sp = execute::add(core.sp, raise);
+        }
         Effect::Store {
             address,
             value,
-            lower: _,
-        } => match write_word(memory, marks, address, value) {
-            Write::Done => Reply::Done,
-            Write::Stopped(stop) => Reply::Stopped(stop),
-        },
-        _ => Reply::Done,
-    }
-}
-
-// Decodes the word, executes it, makes its access, and changes the registers.
-fn obey(
-    word: u16,
-    gprs: &mut [u16; 8],
-    ip: u16,
-    rp: u16,
-    sp: u16,
-    ef: u16,
-    memory: &mut [u16],
-    marks: &mut [u8],
-) -> Obeyed
-    requires { length marks.old ≡ length memory.old }
-    ensures { logged (turn (progress_of result.applied.progress) (core_of gprs.new result.applied.ip result.applied.rp result.applied.sp result.applied.ef) (lent memory.new marks.new)) (reply_log result.reply) ≡ carry_out memory_store (plan_of (core_of gprs.old ip rp sp ef) word) (lent memory.old marks.old) }
-{
-    match Instruction::decode(word) {
-        Err(e) => Obeyed {
-            applied: faulted(ip, rp, sp, ef, Stop::Undecodable(e.word)),
-            reply: Reply::Done,
-        },
-        Ok(ins) => {
-            let effect = execute(ins, word, gprs, ip, rp, sp, ef);
-            let reply = access(effect, memory, marks);
-            let applied = apply(effect, reply, gprs, ip, rp, sp, ef);
-            Obeyed { applied, reply }
+            lower,
+        } => {
+            core.sp = execute::sub(core.sp, lower);
+            store.write(address, value)?;
         }
+        Effect::Decimal(word) => return Err(Stop::Decimal(word)),
+        Effect::Amount(amount) => return Err(Stop::Amount(amount)),
+        Effect::Negation(value) => return Err(Stop::Negation(value)),
     }
+    Ok(())
 }
 
 // Fetches at ip, advances ip, and obeys the word.
-fn cycle(
-    gprs: &mut [u16; 8],
-    ip: u16,
-    rp: u16,
-    sp: u16,
-    ef: u16,
-    memory: &mut [u16],
-    marks: &mut [u8],
-) -> Cycled
-    requires { length marks.old ≡ length memory.old }
-    ensures { logged (turn (progress_of result.applied.progress) (core_of gprs.new result.applied.ip result.applied.rp result.applied.sp result.applied.ef) (lent memory.new marks.new)) (reads_log ip result.reads) ≡ cycle_of memory_store plan_of (core_of gprs.old ip rp sp ef) (lent memory.old marks.old) }
+fn cycle<S: Store>(core: &mut Core, store: &mut S) -> Result<(), Stop>
+    ensures turn { turn (progress_of result) core.new (S.seen store.new) ≡ (cycle_of S.store plan_of core.old (S.seen store.old)).result }
+    ensures noted { (start : S) (l : List ℕ) → S.Noted start store.old l → S.Noted start store.new (l ++ (cycle_of S.store plan_of core.old (S.seen store.old)).log) }
 {
-    let next = execute::add(ip, 1);
-    match fetch_word(memory, marks, ip) {
-        Read::Stopped(stop) => Cycled {
-            applied: faulted(ip, rp, sp, ef, stop),
-            reads: Reads::None,
-        },
-        Read::Word(word) => {
-            let o = obey(word, gprs, next, rp, sp, ef, memory, marks);
-            let applied = o.applied;
-            let reply = o.reply;
-            Cycled {
-                applied,
-                reads: reads_of(word, reply),
-            }
-        }
-    }
+    let word = store.read(Purpose::Fetch, core.ip)?;
+    core.ip = execute::add(core.ip, 1);
+    let ins = Instruction::decode(word)?;
+    let effect = execute(ins, word, &core.gprs, core.ip, core.rp, core.sp, core.ef);
+    obey(core, effect, store)
 }
 
-// Cycles up to the limit: each turn tests halt first, then the limit, then the room for the log, if there is one. A cycle that faults isn't
-// counted.
-pub fn turns(
-    core: Core,
-    memory: &mut [u16],
-    marks: &mut [u8],
-    limit: u32,
-    logging: bool,
-    log: &mut [u32],
-) -> LoggedRun
-    requires { length marks.old ≡ length memory.old }
-    ensures { ran_logged (ran (end_of result.end) result.steps result.core (lent memory.new marks.new)) (written result.logged log.new) ≡ in_buffer (setting (room_of logging (length log.old))) log.old (run_from memory_store plan_of (setting (room_of logging (length log.old))) limit 0 core (lent memory.old marks.old) []) }
+// Cycles up to the limit: each turn tests halt first, then the limit, then the log. A cycle that faults isn't counted.
+pub fn turns<S: Store>(mut core: Core, store: &mut S, limit: u32) -> Run
+    ensures run { ran (end_of result.end) result.steps result.core (S.seen store.new) ≡ (run_until S.store plan_of (S.over store.old) S.why limit 0 core (S.seen store.old) []).result }
+    ensures noted { S.Noted store.old store.new (run_until S.store plan_of (S.over store.old) S.why limit 0 core (S.seen store.old) []).log }
 {
-    let mut gprs = core.gprs;
-    let mut ip = core.ip;
-    let mut rp = core.rp;
-    let mut sp = core.sp;
-    let mut ef = core.ef;
     let mut steps: u32 = 0;
-    let mut logged: usize = 0;
     let end = loop {
-        if execute::is_halted(ef) {
+        if execute::is_halted(core.ef) {
             break End::Halted;
         }
         if steps == limit {
             break End::Limit;
         }
-        if is_full(logging, log.len(), logged) {
-            break End::Log(30);
+        if let Some(end) = store.log_end() {
+            break End::Log(end);
         }
-        let t = cycle(&mut gprs, ip, rp, sp, ef, memory, marks);
-        let reads = t.reads;
-        logged = log_reads(logging, log, logged, ip, reads);
-        let applied = t.applied;
-        ip = applied.ip;
-        rp = applied.rp;
-        sp = applied.sp;
-        ef = applied.ef;
-        let progress = applied.progress;
-        match progress {
-            Progress::Stepped => {
-                steps += 1;
-            }
-            Progress::Fault(stop) => {
-                break End::Fault(stop);
-            }
+        if let Err(stop) = cycle(&mut core, store) {
+            break End::Fault(stop);
         }
+        steps += 1;
     };
-    let after = Core {
-        gprs,
-        ip,
-        rp,
-        sp,
-        ef,
-    };
-    LoggedRun {
-        core: after,
-        steps,
-        end,
-        logged,
-    }
+    Run { core, steps, end }
 }

@@ -3,16 +3,18 @@
 
 mod core_record;
 mod cycle;
-mod effects;
 mod lent;
 mod log;
+mod logging;
 mod memory;
+mod refusal;
 mod stop;
+mod store;
 
-pub use core_record::{Answer, Core, Run, Step};
-pub use cycle::{End, LoggedRun};
-pub use effects::{Applied, Progress, Reply, apply, faulted};
+pub use core_record::{Answer, Core, LoggedRun, Run, Step};
+pub use cycle::{End, turns};
 pub use lent::{step_by_lent, step_lent};
 pub use log::{Purpose, address_word};
-pub use memory::refuses_length;
+pub use refusal::{LogEnd, Refusal, check_length};
 pub use stop::{Fault, Stop};
+pub use store::Store;

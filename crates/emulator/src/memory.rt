@@ -1,92 +1,85 @@
-// Access to lent memory, with marks.
-ghost use Rattle.std.specs.Prelude.{◌≡◌, length, replicate};
-ghost use Rattle.emulator.specs.Memory.{refused_length, read_mark, write_mark, lent, accessed, read_of, write_of};
+// Lent memory with its marks.
+ghost use Rattle.std.specs.Prelude.{◌≡◌, length, false, refl};
+ghost use Rattle.emulator.specs.Memory.{Memory, read_mark, write_mark, lent};
+ghost use Rattle.emulator.specs.Machine.{memory_store};
+ghost use Rattle.emulator.specs.Parts.{place_of};
+ghost use Rattle.emulator.specs.declared.refusal.LogEnd.TheVariants.{Full};
 
+use crate::log::Purpose;
+use crate::refusal::LogEnd;
 use crate::stop::Stop;
-
-// What a read finds.
-#[derive(Clone, Copy)]
-pub enum Read {
-    Word(u16),
-    Stopped(Stop),
-}
-
-// What a write comes to.
-#[derive(Clone, Copy)]
-pub enum Write {
-    Done,
-    Stopped(Stop),
-}
-
-// Host test 1: whether memory has no word, or more than 65,536.
-pub fn refuses_length(words: usize) -> bool
-    ensures { result ≡ refused_length words }
-{
-    if words == 0 {
-        return true;
-    }
-    65536 < words
-}
+use crate::store::Store;
 
 // A mark after a read: bit 0 is set, unless bit 1 is.
-fn read_mark(m: u8) -> u8
+#[tactic(auto, unfolding(crate::specs::Memory::read_mark))]
+pub fn read_mark(m: u8) -> u8
     ensures { result ≡ read_mark m }
 {
-    if m / 2 % 2 == 1 {
-        return m;
-    }
-    if m % 2 == 1 { m } else { m + 1 }
+    if m / 2 % 2 == 1 || m % 2 == 1 { m } else { m + 1 }
 }
 
 // A mark after a write: bit 1 is set.
-fn write_mark(m: u8) -> u8
+#[tactic(auto, unfolding(crate::specs::Memory::write_mark))]
+pub fn write_mark(m: u8) -> u8
     ensures { result ≡ write_mark m }
 {
     if m / 2 % 2 == 1 { m } else { m + 2 }
 }
 
-// The word at an address, which is marked as read.
-pub fn read_word(memory: &[u16], marks: &mut [u8], address: u16) -> Read
-    requires { length marks.old ≡ length memory.now }
-    ensures { accessed result (lent memory.now marks.new) ≡ read_of (lent memory.now marks.old) address }
+// The place of an address in a memory of so many words.
+pub fn place(size: usize, address: u16) -> Result<usize, Stop>
+    ensures { result ≡ place_of size address }
 {
     let at = address as usize;
-    if memory.len() <= at {
-        return Read::Stopped(Stop::OutOfRange(address));
+    if at < size {
+        Ok(at)
+    } else {
+        Err(Stop::OutOfRange(address))
     }
-    marks[at] = read_mark(marks[at]);
-    Read::Word(memory[at])
 }
 
-// The word at an address, read to be executed.
-pub fn fetch_word(memory: &[u16], marks: &mut [u8], address: u16) -> Read
-    requires { length marks.old ≡ length memory.now }
-    ensures { accessed result (lent memory.now marks.new) ≡ read_of (lent memory.now marks.old) address }
-{
-    read_word(memory, marks, address)
+// The words and as many marks.
+#[derive(Drop)]
+pub struct MarkedMemory<'a> {
+    pub words: &'a mut [u16],
+    pub marks: &'a mut [u8],
+    pub ghost marked: { length marks.now ≡ length words.now },
 }
 
-// Puts a word at an address, which is marked as written.
-pub fn write_word(memory: &mut [u16], marks: &mut [u8], address: u16, value: u16) -> Write
-    requires { length marks.old ≡ length memory.old }
-    ensures { accessed result (lent memory.new marks.new) ≡ write_of (lent memory.old marks.old) address value }
-{
-    let at = address as usize;
-    if memory.len() <= at {
-        return Write::Stopped(Stop::OutOfRange(address));
-    }
-    marks[at] = write_mark(marks[at]);
-    memory[at] = value;
-    Write::Done
-}
+impl Store for MarkedMemory<'_> {
+    ghost Seen = { Memory };
 
-// Sets all marks to 0.
-pub fn clear(marks: &mut [u8])
-    ensures { marks.new ≡ replicate (length marks.old) 0 }
-{
-    let mut i = 0;
-    while i < marks.len() {
-        marks[i] = 0;
-        i += 1;
+    ghost seen = { λ s. lent s.words.now s.marks.now };
+
+    ghost store = { memory_store };
+
+    // It has no log, and is still what was lent.
+    ghost Noted = { λ start now l. (now.words.ghost_name ≡ start.words.ghost_name) × (now.marks.ghost_name ≡ start.marks.ghost_name) };
+
+    ghost over = { λ start l. false };
+
+    ghost why = { Full };
+
+    // The word at an address, which is marked as read.
+    #[tactic(auto, unfolding(crate::specs::Memory::read_of))]
+    fn read(&mut self, _purpose: Purpose, address: u16) -> Result<u16, Stop> {
+        let at = place(self.words.len(), address)?;
+        self.marks[at] = read_mark(self.marks[at]);
+        Ok(self.words[at])
     }
+
+    // Puts a word at an address, which is marked as written.
+    #[tactic(auto, unfolding(crate::specs::Memory::write_of))]
+    fn write(&mut self, address: u16, value: u16) -> Result<(), Stop> {
+        let at = place(self.words.len(), address)?;
+        self.marks[at] = write_mark(self.marks[at]);
+        self.words[at] = value;
+        Ok(())
+    }
+
+    fn log_end(&self) -> Option<LogEnd> {
+        None
+    }
+
+    ghost begun = { λ start. (refl, refl) };
 }

@@ -1,9 +1,12 @@
 // Why a step stops.
 ghost use Rattle.std.specs.Prelude.{◌≡◌};
 ghost use Rattle.emulator.specs.Outcome.{stop_of, fault};
+ghost use Rattle.emulator.specs.declared.stop.Stop.TheVariants as stops;
+
+use instructions::Undecodable;
 
 // A stop, with the value that is returned too.
-#[derive(Clone, Copy)]
+#[derive(Clone, Copy, Debug, PartialEq, Eq)]
 pub enum Stop {
     // The word.
     Undecodable(u16),
@@ -15,6 +18,14 @@ pub enum Stop {
     Amount(u16),
     // The word that has no negation, 0x8000.
     Negation(u16),
+}
+
+impl From<Undecodable> for Stop {
+    ghost from_gives = { λ e s. s ≡ stops.Undecodable e.word };
+
+    fn from(e: Undecodable) -> Stop {
+        Stop::Undecodable(e.word)
+    }
 }
 
 // A stop by its number.

@@ -1,0 +1,135 @@
+-- Laws of the run, the logged run and the step: by their host tests, and as the turns of the loop.
+use Rattle.std.specs.Prelude.{◌≡◌, ℕ, ◌+◌, ◌≤◌, List, [], length, replicate, Result, Ok, Err}
+use mathlib.Core.Path.{refl, sym, ap, ◌∙◌}
+use native.Mathlib.Nat.{zero-add}
+use native.Mathlib.Omega.{arith}
+use lib.ListN.{length-replicate}
+use borrow.Author.Tests.{eq-eqb, ne_eqb}
+use Rattle.instructions.proofs.Cases.{by_test, if_elim}
+use Rattle.emulator.specs.Core.{is_halted}
+use Rattle.emulator.specs.Log.{Reply, Logged, logged, is_full, written, words, written_of}
+use Rattle.emulator.specs.Memory.{Memory, lent}
+use Rattle.emulator.specs.Outcome.{Outcome, stepped, halted, limit, fault, refused, ended, stop_of, refusal_number, answer_of, end_of, uncounted, answered_of}
+use Rattle.emulator.specs.Machine.{Access, none, load, store, stop, Plan, plan_of, settle_of, memory_store, Turn, turn, on_fetch, advanced, carry_out, cycle_of, refusal_of, unmarked, step_of, Ran, ran, next_of, Setting, plain, logging_in, run_until, run_from, RanLogged, ran_logged, in_buffer, run_in, run_of, run_logged_of}
+use Rattle.emulator.specs.Parts.{Logs}
+use Rattle.emulator.specs.declared.core_record.Answer.{Answer}
+use Rattle.emulator.specs.declared.core_record.Core.{Core}
+use Rattle.emulator.specs.declared.cycle.End.{End}
+use Rattle.emulator.specs.declared.refusal.LogEnd.{LogEnd}
+use Rattle.emulator.specs.declared.refusal.Refusal.{Refusal}
+use Rattle.emulator.specs.declared.stop.Stop.{Stop}
+use Rattle.emulator.proofs.Laws.{accepted}
+use Rattle.emulator.proofs.Logs.{logs_kept}
+use Rattle.emulator.proofs.Runs.{stop_elim}
+use Rattle.emulator.proofs.Sizes.{run_fits}
+
+-- what the loop left in memory and in the log stands in what was lent
+pub relogged : (r : Memory → Ran Memory) (k : ℕ) {a b l a' b' l' : List ℕ} {x : RanLogged} → a' ≡ a → b' ≡ b → l' ≡ l
+    → ran_logged (r (lent a b)) (written k l) ≡ x → ran_logged (r (lent a' b')) (written k l') ≡ x
+relogged r k p q s e = rw (p, q, s) e
+
+-- an accepted run is its turns from marks that are all 0
+pub accepted_run : (plan : Core → ℕ → Plan) (given : Setting) (c : Core) (m : Memory) (most : ℕ) → refusal_of m ≡ 0
+    → run_in plan given c m most ≡ run_from memory_store plan given most 0 c (unmarked m) []
+unfolding run_in
+accepted_run plan given c m most z = rw (eq-eqb (refusal_of m) 0 z)
+
+-- a refusal is no 0
+refuses : (r : Refusal) {n : ℕ} → refusal_number r ≡ n → n ≡ 0 → ⊥
+refuses Refusal.MemoryLength e z = omega arith
+refuses Refusal.MarksLength e z = omega arith
+
+module _ (c : Core) (mem ms : List ℕ) (most : ℕ) where
+  module _ (r : Refusal) (asked : refusal_number r ≡ refusal_of (lent mem ms)) where
+    refused_run : (given : Setting) → logged (ran (refused (refusal_number r)) 0 c (lent mem ms)) [] ≡ run_in plan_of given c (lent mem ms) most
+    unfolding run_in
+    refused_run given = rw (asked, ne_eqb (refusal_of (lent mem ms)) 0 (refuses r asked))
+
+    pub run_refused : ran (refused (refusal_number r)) 0 c (lent mem ms) ≡ run_of plan_of c (lent mem ms) most
+    unfolding run_of
+    run_refused = ap (λ (x : Logged (Ran Memory)). x.result) (refused_run plain)
+
+    pub logged_refused : (b : List ℕ) → ran_logged (ran (refused (refusal_number r)) 0 c (lent mem ms)) (written 0 b) ≡ run_logged_of plan_of c (lent mem ms) most b
+    unfolding run_logged_of
+    logged_refused b = ap (in_buffer (logging_in b) b) (refused_run (logging_in b))
+
+  module _ (asked : 0 ≡ refusal_of (lent mem ms)) {ms₀ : List ℕ} (cleared : ms₀ ≡ replicate (length ms) 0) where
+    whole_run : (given : Setting) → run_from memory_store plan_of given most 0 c (lent mem ms₀) [] ≡ run_in plan_of given c (lent mem ms) most
+    whole_run given = rw (cleared, accepted_run plan_of given c (lent mem ms) most (sym asked))
+
+    pub run_accepted : {r : Ran Memory} → r ≡ (run_from memory_store plan_of plain most 0 c (lent mem ms₀) []).result → r ≡ run_of plan_of c (lent mem ms) most
+    unfolding run_of
+    run_accepted t = t ∙ ap (λ (x : Logged (Ran Memory)). x.result) (whole_run plain)
+
+    pub logged_accepted : (b : List ℕ) {b' : List ℕ} {k : ℕ} {r : Ran Memory}
+        → r ≡ (run_until memory_store plan_of (λ l. is_full (words (length b)) (0 + length l)) LogEnd.Full most 0 c (lent mem ms₀) []).result
+        → Logs b 0 b' k (run_until memory_store plan_of (λ l. is_full (words (length b)) (0 + length l)) LogEnd.Full most 0 c (lent mem ms₀) []).log
+        → ran_logged r (written k b') ≡ run_logged_of plan_of c (lent mem ms) most b
+    unfolding run_logged_of
+    logged_accepted b t h =
+        let w = run_fits memory_store plan_of (length b) LogEnd.Full most 0 c (lent mem ms₀) [] (omega arith) in
+        rw (simp zero-add at t, logs_kept (simp zero-add at h) w) (ap (in_buffer (logging_in b) b) (whole_run (logging_in b)))
+
+pub cleared_marked : (mem ms : List ℕ) {ms₀ : List ℕ} → 0 ≡ refusal_of (lent mem ms) → ms₀ ≡ replicate (length ms) 0 → length ms₀ ≡ length mem
+cleared_marked mem ms z e = ap length e ∙ (length-replicate (length ms) 0 ∙ accepted mem ms z)
+
+-- a cycle isn't ended by the limit
+abbrev Settles : Outcome → Type 0
+Settles o = uncounted o ≡ o
+
+stop_settled : (s : Stop) → Settles (stop_of s)
+stop_settled = stop_elim Settles (λ n v. refl)
+
+settle_settled : (c : Core) (x : Access) (r : Reply) → Settles (settle_of c x r).outcome
+settle_settled c none r = refl
+settle_settled c (load a g up) Reply.done = refl
+settle_settled c (load a g up) (Reply.word b w) = refl
+settle_settled c (load a g up) (Reply.stopped s) = stop_settled s
+settle_settled c (store a v) Reply.done = refl
+settle_settled c (store a v) (Reply.word b w) = refl
+settle_settled c (store a v) (Reply.stopped s) = stop_settled s
+settle_settled c (stop s) r = stop_settled s
+
+cycle_settled : (plan : Core → ℕ → Plan) (c : Core) (m : Memory) → Settles (cycle_of memory_store plan c m).result.outcome
+unfolding cycle_of
+cycle_settled plan c m = by_answer (memory_store.read m c.ip).answer
+  where
+    by_answer : (r : Result ℕ Stop) → Settles (on_fetch (λ w. carry_out memory_store (plan (advanced c) w)) c (memory_store.read m c.ip).memory r).result.outcome
+    by_answer (Ok w) = settle_settled (plan (advanced c) w).core (plan (advanced c) w).access _
+    by_answer (Err s) = stop_settled s
+
+-- what a step answers, of a run of at most one turn
+abbrev answered_by : Ran Memory → Turn Memory
+answered_by r = turn (answered_of r.steps r.end) r.core r.memory
+
+once : (plan : Core → ℕ → Plan) (o : Outcome) (c : Core) (m : Memory) (l : List ℕ) → Settles o
+    → answered_by (next_of (run_from memory_store plan plain 0 1) 0 [] (logged (turn o c m) l)).result ≡ turn o c m
+unfolding run_until
+once plan stepped c m l e = if_elim (λ (r : Logged (Ran Memory)). answered_by r.result ≡ turn stepped c m) (is_halted c) (λ _. refl) (λ _. refl)
+once plan halted c m l e = refl
+once plan limit c m l e = ap (λ (o : Outcome). turn o c m) e
+once plan (fault k v) c m l e = refl
+once plan (refused k) c m l e = refl
+once plan (ended k) c m l e = ap (λ (o : Outcome). turn o c m) e
+
+step_once : (plan : Core → ℕ → Plan) (c : Core) (m : Memory) → refusal_of m ≡ 0 → answered_by (run_from memory_store plan plain 1 0 c m []).result ≡ step_of plan c m
+unfolding run_until step_of
+step_once plan c m ok =
+    by_test (is_halted c)
+    (λ h. rw (eq-eqb (refusal_of m) 0 ok, h))
+    (λ h. rw (eq-eqb (refusal_of m) 0 ok, h) (once plan t.result.outcome t.result.core t.result.memory t.log (cycle_settled plan c m)))
+  where
+    t : Logged (Turn Memory)
+    t = cycle_of memory_store plan c m
+
+-- the step, by its host tests and the run of one turn
+module _ (c : Core) (mem ms : List ℕ) where
+  pub step_refused : (r : Refusal) → refusal_number r ≡ refusal_of (lent mem ms) → turn (refused (refusal_number r)) c (lent mem ms) ≡ step_of plan_of c (lent mem ms)
+  unfolding step_of
+  step_refused r asked = rw (asked, ne_eqb (refusal_of (lent mem ms)) 0 (refuses r asked))
+
+  pub step_answered : (x : End) (a : Answer) {n : ℕ} {d : Core} {m' : Memory} → 0 ≡ refusal_of (lent mem ms)
+      → ran (end_of x) n d m' ≡ (run_from memory_store plan_of plain 1 0 c (lent mem ms) []).result
+      → answer_of a ≡ answered_of n (end_of x) → turn (answer_of a) d m' ≡ step_of plan_of c (lent mem ms)
+  step_answered x a {d = d} {m' = m'} asked run says =
+      ap (λ (o : Outcome). turn o d m') says ∙ (ap answered_by run ∙ step_once plan_of c (lent mem ms) (sym asked))
