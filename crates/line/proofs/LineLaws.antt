@@ -6,9 +6,11 @@ use lib.ListN.{length, take, replicate}
 use lib.Seq.{length-take-le}
 use Rattle.emulator.specs.declared.core_record.Core.{Core}
 use Rattle.emulator.specs.declared.cycle.End.{End}
+use Rattle.emulator.specs.declared.refusal.LogEnd.{LogEnd}
+use Rattle.emulator.specs.declared.refusal.Refusal.{Refusal}
 use Rattle.emulator.specs.declared.stop.Stop.{Stop}
 use Rattle.emulator.specs.Memory.{Memory, lent}
-use Rattle.emulator.specs.Outcome.{Outcome, fault, stop_of, end_of}
+use Rattle.emulator.specs.Outcome.{Outcome, fault, stop_of, refusal_number, end_of}
 use Rattle.emulator.specs.Machine.{plan_of, ran, run_of}
 use Rattle.sheet.specs.declared.load.Loaded.{Loaded}
 use Rattle.sheet.specs.declared.write.Written.{Written}
@@ -61,14 +63,15 @@ module _ (x : End) (steps : ℕ) (c : Core) {b₀ b₁ b₂ : List ℕ} {a₁ a�
       both : fields (n ∷ v ∷ []) ++ (fields (state_of steps c) ++ 10 ∷ []) ≡ fields (n ∷ v ∷ state_of steps c) ++ 10 ∷ []
       both = rw (fields_append (n ∷ v ∷ []) (state_of steps c)) (sym (append_assoc (fields (n ∷ v ∷ [])) (fields (state_of steps c)) (10 ∷ [])))
 
-pub put_log : (x : End) (steps : ℕ) (c : Core) (b : List ℕ) {n : ℕ} → x ≡ End.Log n → AtFront b b 0 (end_line (end_of x) steps c)
+pub put_log : (x : End) (steps : ℕ) (c : Core) (b : List ℕ) {l : LogEnd} → x ≡ End.Log l → AtFront b b 0 (end_line (end_of x) steps c)
 unfolding end_line
 put_log x steps c b e = rw e (record { bytes = refl; size = refl })
 
-pub put_host : (x : End) (steps : ℕ) (c : Core) {before after : List ℕ} {n past : ℕ} → x ≡ End.Refused n → AtFront before after past (refused_line n)
+pub put_host : (x : End) (steps : ℕ) (c : Core) {r : Refusal} {before after : List ℕ} {n past : ℕ} → x ≡ End.Refused r → n ≡ refusal_number r
+    → AtFront before after past (refused_line n)
     → AtFront before after past (end_line (end_of x) steps c)
 unfolding end_line
-put_host x steps c e p = rw e p
+put_host x steps c e f p = rw e (rw f at p)
 
 -- the line of a sheet, by how it is loaded
 module _ (records : List ℕ) {answer : Loaded} {c : Core} {words : List ℕ} (loads : left answer c words ≡ load_sheet_of records (replicate 32768 0))

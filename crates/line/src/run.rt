@@ -53,7 +53,7 @@ fn put_run(out: &mut [u8; 128], run: Run) -> usize
             let at = put_fields(out, word, &stopped);
             put_state(out, at, run)
         }
-        End::Refused(number) => put_refused(out, number),
+        End::Refused(refusal) => put_refused(out, refusal.number()),
         End::Log(_) => 0,
     }
 }

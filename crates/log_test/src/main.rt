@@ -39,13 +39,13 @@ fn show_end(rt: &impl Print, end: End) -> io::Result<()> {
             number(rt, fault.number as u64)?;
             number(rt, fault.value as u64)
         }
-        End::Refused(test) => {
+        End::Refused(refusal) => {
             text(rt, b"refused")?;
-            number(rt, test as u64)
+            number(rt, refusal.number() as u64)
         }
         End::Log(end) => {
             text(rt, b"log")?;
-            number(rt, end as u64)
+            number(rt, end.number() as u64)
         }
     }
 }

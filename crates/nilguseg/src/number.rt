@@ -23,8 +23,8 @@ pub fn end_number(end: End) -> u32
             let fault = stop.fault();
             number(3, fault.number, fault.value)
         }
-        End::Refused(test) => number(4, test, 0),
-        End::Log(end) => number(5, end, 0),
+        End::Refused(refusal) => number(4, refusal.number(), 0),
+        End::Log(end) => number(5, end.number(), 0),
     }
 }
 
@@ -36,7 +36,7 @@ pub fn step_number(answer: Answer) -> u32
         Answer::Stepped => number(0, 0, 0),
         Answer::Halted => end_number(End::Halted),
         Answer::Fault(stop) => end_number(End::Fault(stop)),
-        Answer::Refused(test) => end_number(End::Refused(test)),
+        Answer::Refused(refusal) => end_number(End::Refused(refusal)),
     }
 }
 

@@ -16,8 +16,7 @@ use Rattle.emulator.proofs.Fill.{get_d_zeros}
 use Rattle.order.specs.declared.Order.{Order}
 use Rattle.order.specs.Order.{word_in, place_of, order_of, earlier_of, part_of, Slice, from_place, earlier_part}
 use Rattle.sheet.specs.declared.load.Loaded.{Loaded}
-use Rattle.sheet.specs.Load.{Left, load_words_of}
-use Rattle.sheet.proofs.LoadLaws.{words_long}
+use Rattle.sheet.specs.Load.{load_words_of}
 use Rattle.order_laws.specs.Claims.{Before, Equal, exchanged, OneOf, Total, Transitive, TrailingZeros, Equality, LoadAlike, Smaller, FirstDifference}
 use Rattle.order_laws.proofs.Compared.{by_words_lem, Same, same_before, end_place, same_all, Compared, compared, decided, turned, replaced, joined, all_same}
 
@@ -134,7 +133,8 @@ equality =
 
 -- loading
 too_long : (l mem : List ℕ) → refused_length (length mem) ≡ false → ltb (length mem) (length l) ≡ true → (load_words_of l mem).answer ≡ Loaded.Refused 3
-too_long l mem r t = ap (λ (x : Left). x.answer) (sym (words_long l mem refl refl r (ltb-true _ _ t)))
+unfolding load_words_of
+too_long l mem r t = rw (r, t)
 
 pub load_alike : LoadAlike
 unfolding load_words_of

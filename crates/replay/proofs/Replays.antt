@@ -4,6 +4,7 @@ use mathlib.Core.Bool.{Bool, true, false}
 use mathlib.Core.List.{List, [], ◌++◌, append-nil, append_assoc, append_cancel_left, append_cancel_right}
 use mathlib.Core.Path.{◌≡◌, refl, sym, ap, ◌∙◌}
 use native.Mathlib.Omega.{arith}
+use Rattle.std.specs.Prelude.{Ok, Err}
 use lib.Dec.{ltb}
 use lib.ListN.{length, take, drop, take-append-drop, length-take}
 use lib.Seq.{take-length}
@@ -13,15 +14,18 @@ use borrow.Author.Tests.{ltb-true, ltb-false, lt-ltb, le-ltb}
 use Rattle.instructions.proofs.Cases.{by_test}
 use Rattle.emulator.specs.Core.{core_of, is_halted}
 use Rattle.emulator.specs.Log.{Logged, logged, read_log}
-use Rattle.emulator.specs.Memory.{refused_length}
-use Rattle.emulator.specs.Outcome.{Outcome, progress_of, end_of, refused}
+use Rattle.emulator.specs.Memory.{length_test}
+use Rattle.emulator.specs.Outcome.{Outcome, progress_of, refusal_number, end_of, refused}
 use Rattle.emulator.specs.Machine.{plan_of, Store, Turn, turn, cycle_of, Ran, ran, next_of, plain, run_from}
 use Rattle.emulator.specs.declared.core_record.Core.{Core}
 use Rattle.emulator.specs.declared.core_record.Run.{Run}
 use Rattle.emulator.specs.declared.cycle.End.{End}
 use Rattle.emulator.specs.declared.effects.Applied.{Applied}
 use Rattle.emulator.specs.declared.effects.Progress.{Progress}
+use Rattle.emulator.specs.declared.refusal.LogEnd.{LogEnd}
+use Rattle.emulator.specs.declared.refusal.Refusal.{Refusal}
 use Rattle.emulator.specs.declared.stop.Stop.{Stop}
+use Rattle.emulator.proofs.Laws.{length_passes, length_fails}
 use Rattle.emulator.proofs.Keeps.{Leads, next_leads, run_leads}
 use Rattle.emulator.proofs.Runs.{stop_elim, run_halted, run_limit, run_turn, one_more}
 use Rattle.replay.specs.Places.{Along, Off, Goes, finished_of}
@@ -67,7 +71,7 @@ replaying_start size l most c f =
 
 -- the answer, by the place where the replay ends; and off the log
 abbrev off : Core → Run
-off c = record { core = c; steps = 0; end = End.Log 31 }
+off c = record { core = c; steps = 0; end = End.Log LogEnd.Mismatch }
 
 module _ (size : ℕ) (l : List ℕ) (most : ℕ) (c₀ : Core) where
   abbrev answer : Replayed
@@ -155,16 +159,16 @@ module _ {size : ℕ} {l : List ℕ} {most : ℕ} {c₀ c : Core} {n k : ℕ} (n
             ∙ rw f at turned))
 
 -- the replay, by host test 1 and the place where its loop ended
-module _ (c : Core) (size most : ℕ) (l : List ℕ) {b : Bool} (asked : b ≡ refused_length size) where
-  pub replay_refused : b ≡ true → replayed (refused 1) 0 c ≡ replay_of plan_of c size most l
+module _ (c : Core) (size most : ℕ) (l : List ℕ) where
+  pub replay_refused : (r : Refusal) → Err r ≡ length_test size → replayed (refused (refusal_number r)) 0 c ≡ replay_of plan_of c size most l
   unfolding replay_of
-  replay_refused e = rw (← asked, e)
+  replay_refused r e = let f = length_fails size e in rw (f.0, f.1)
 
-  module _ (run : Run) {k : ℕ} (e : b ≡ false) (h : finished_of c (length l) run k ≡ answer size l most c) where
+  module _ {u : Unit {0}} (passed : Ok u ≡ length_test size) (run : Run) {k : ℕ} (h : finished_of c (length l) run k ≡ answer size l most c) where
     pub replay_left_over : {r : Run} → k < length l → r ≡ off c → replayed (end_of r.end) r.steps r.core ≡ replay_of plan_of c size most l
     unfolding replay_of
-    replay_left_over u r = rw (← asked, e, ← h, r, lt-ltb k (length l) u)
+    replay_left_over below r = rw (length_passes size passed, ← h, r, lt-ltb k (length l) below)
 
     pub replay_whole : length l ≤ k → replayed (end_of run.end) run.steps run.core ≡ replay_of plan_of c size most l
     unfolding replay_of
-    replay_whole u = rw (← asked, e, ← h, le-ltb k (length l) u)
+    replay_whole past = rw (length_passes size passed, ← h, le-ltb k (length l) past)

@@ -7,7 +7,9 @@ ghost use Rattle.replay.specs.Places.{Goes, finished_of};
 ghost use Rattle.replay.specs.Replay.{tape, tape_store, replayed, answer_of, replay_of};
 
 use crate::tape::{Found, Recorded, access, read_log};
-use emulator::{Applied, Core, End, Progress, Purpose, Run, Stop, apply, faulted, refuses_length};
+use emulator::{
+    Applied, Core, End, LogEnd, Progress, Purpose, Run, Stop, apply, check_length, faulted,
+};
 use execute::execute;
 use instructions::Instruction;
 
@@ -73,12 +75,12 @@ fn cycle(
 
 // The whole answer where the reads aren't the log's: the core as it was given, and 31.
 fn mismatch(core: Core) -> Run
-    ensures { result ≡ record { core = core; steps = 0; end = End.Log 31 } }
+    ensures { result ≡ record { core = core; steps = 0; end = End.Log LogEnd.Mismatch } }
 {
     Run {
         core,
         steps: 0,
-        end: End::Log(31),
+        end: End::Log(LogEnd::Mismatch),
     }
 }
 
@@ -152,11 +154,11 @@ fn turns(core: Core, size: usize, limit: u32, log: &[u32]) -> Ended
 pub fn replay(core: Core, size: usize, limit: u32, log: &[u32]) -> Run
     ensures { replayed (end_of result.end) result.steps result.core ≡ replay_of plan_of core size limit log.now }
 {
-    if refuses_length(size) {
+    if let Err(refusal) = check_length(size) {
         return Run {
             core,
             steps: 0,
-            end: End::Refused(1),
+            end: End::Refused(refusal),
         };
     }
     let ended = turns(core, size, limit, log);

@@ -12,7 +12,11 @@ use lib.Dec.{ltb, eqb}
 use borrow.Author.Tests.{lt-ltb, le-ltb, ltb-true, eq-eqb, ne_eqb}
 use Rattle.emulator.specs.declared.core_record.Core.{Core}
 use Rattle.emulator.specs.Core.{new_core}
-use Rattle.emulator.specs.Memory.{refused_length}
+use Rattle.std.specs.Prelude.{Ok, Err}
+use Rattle.emulator.specs.Memory.{length_test}
+use Rattle.emulator.specs.Outcome.{refusal_number}
+use Rattle.emulator.specs.declared.refusal.Refusal.{Refusal}
+use Rattle.emulator.proofs.Laws.{length_passes, length_fails}
 use Rattle.sheet.specs.declared.load.Loaded.{Loaded}
 use Rattle.sheet.specs.declared.fields.Record.{Record}
 use Rattle.sheet.specs.declared.fields.Record.TheVariants.{Place, Word, Preset, End, Refused}
@@ -195,20 +199,20 @@ module _ (sheet mem₀ zeros mem : List ℕ) (c : Core) (a i : ℕ) (cleared : z
 pub sheet_passed : {o p : Loaded} → o ≡ p → o ≡ Loaded.Done → Loaded.Done ≡ p
 sheet_passed e q = sym q ∙ e
 
-module _ (sheet mem : List ℕ) {b : Bool} (asked : b ≡ refused_length (length mem)) where
-  pub sheet_host : {c : Core} → c ≡ new_core → b ≡ true → left (Loaded.Refused 1) c mem ≡ load_sheet_of sheet mem
+module _ (sheet mem : List ℕ) where
+  pub sheet_host : (r : Refusal) {c : Core} → Err r ≡ length_test (length mem) → c ≡ new_core → left (Loaded.Refused (refusal_number r)) c mem ≡ load_sheet_of sheet mem
   unfolding load_sheet_of
-  sheet_host f e = rw (f, ← asked, e)
+  sheet_host r e f = let t = length_fails (length mem) e in rw (f, t.0, t.1)
 
-  pub sheet_refused : {c : Core} {o : Loaded} {k : ℕ} → c ≡ new_core → b ≡ false → o ≡ tested_of (sheet_reads sheet (length mem)) → o ≡ Loaded.Refused k
+  pub sheet_refused : {u : Unit {0}} {c : Core} {o : Loaded} {k : ℕ} → Ok u ≡ length_test (length mem) → c ≡ new_core → o ≡ tested_of (sheet_reads sheet (length mem)) → o ≡ Loaded.Refused k
       → left (Loaded.Refused k) c mem ≡ load_sheet_of sheet mem
   unfolding load_sheet_of
-  sheet_refused {c} {o} {k} f e p q = rw (f, ← asked, e) (go (sheet_reads sheet (length mem)) (sym q ∙ p))
+  sheet_refused {k = k} e f p q = rw (f, length_passes (length mem) e) (go (sheet_reads sheet (length mem)) (sym q ∙ p))
     where
       go : (s : Reading) → Loaded.Refused k ≡ tested_of s → refused_with k mem ≡ settled mem s
       go (Reading.gives d m) x = let z : ◌≡◌ {A = ℕ} 0 1 = cc in absurd (omega arith)
       go (Reading.fails j) x = let y : k ≡ j = cc in rw y
 
-  pub sheet_done : {c : Core} {mem' : List ℕ} → b ≡ false → Reading.gives c mem' ≡ sheet_reads sheet (length mem) → left Loaded.Done c mem' ≡ load_sheet_of sheet mem
+  pub sheet_done : {u : Unit {0}} {c : Core} {mem' : List ℕ} → Ok u ≡ length_test (length mem) → Reading.gives c mem' ≡ sheet_reads sheet (length mem) → left Loaded.Done c mem' ≡ load_sheet_of sheet mem
   unfolding load_sheet_of
-  sheet_done e p = rw (← asked, e, ← p)
+  sheet_done e p = rw (length_passes (length mem) e, ← p)

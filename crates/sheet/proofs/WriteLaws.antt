@@ -13,7 +13,11 @@ use lib.Dec.{eqb}
 use borrow.Author.Tests.{lt-ltb, le-ltb, eq-eqb, ne_eqb}
 use Rattle.instructions.specs.Bounded.{Bounded}
 use Rattle.emulator.specs.declared.core_record.Core.{Core}
-use Rattle.emulator.specs.Memory.{refused_length}
+use Rattle.std.specs.Prelude.{Ok, Err}
+use Rattle.emulator.specs.Memory.{length_test}
+use Rattle.emulator.specs.Outcome.{refusal_number}
+use Rattle.emulator.specs.declared.refusal.Refusal.{Refusal}
+use Rattle.emulator.proofs.Laws.{length_passes, length_fails}
 use Rattle.sheet.specs.declared.write.Written.{Written}
 use Rattle.sheet.specs.Record.{register_of}
 use Rattle.sheet.specs.Write.{wrote, place_record, word_record, preset_record, end_record, presets_from, records_at, stretches_from, nonzero, words_in, sheet_of, write_sheet_of}
@@ -216,18 +220,18 @@ unfolding sheet_of
 sheet_put c mem s = rw (length_presets c) at (three_runs (presets_from c 12 0) (stretches_from 0 0 mem) s (end_record (words_in mem)))
 
 -- writing a sheet
-module _ (c : Core) (mem s : List ℕ) {a : Bool} (asked : a ≡ refused_length (length mem)) where
-  pub write_host : a ≡ true → wrote (Written.Refused 1) s ≡ write_sheet_of c mem s
+module _ (c : Core) (mem s : List ℕ) where
+  pub write_host : (r : Refusal) → Err r ≡ length_test (length mem) → wrote (Written.Refused (refusal_number r)) s ≡ write_sheet_of c mem s
   unfolding write_sheet_of
-  write_host e = rw (← asked, e)
+  write_host r e = let t = length_fails (length mem) e in rw (t.0, t.1)
 
-  module _ {n : ℕ} (e : a ≡ false) (counted : n ≡ length (stretches_from 0 0 mem)) where
+  module _ {u : Unit {0}} {n : ℕ} (passed : Ok u ≡ length_test (length mem)) (counted : n ≡ length (stretches_from 0 0 mem)) where
     pub write_short : length s ≤ 12 + n → wrote (Written.Refused 4) s ≡ write_sheet_of c mem s
     unfolding write_sheet_of
     write_short l =
         let size = length_sheet c mem in
         let short : length s < length (sheet_of c mem) = omega arith in
-        rw (← asked, e, lt-ltb (length s) (length (sheet_of c mem)) short)
+        rw (length_passes (length mem) passed, lt-ltb (length s) (length (sheet_of c mem)) short)
 
     pub write_done : {w : ℕ} {s₁ s₂ : List ℕ} → w ≡ words_in mem → 12 + n < length s → s₁ ≡ sets s 0 (presets_from c 12 0) → s₂ ≡ sets s₁ 12 (stretches_from 0 0 mem)
         → wrote (Written.Records (12 + n + 1)) (set s₂ (12 + n) (end_record w)) ≡ write_sheet_of c mem s
@@ -235,4 +239,4 @@ module _ (c : Core) (mem s : List ℕ) {a : Bool} (asked : a ≡ refused_length 
     write_done f l p q =
         let size : length (sheet_of c mem) ≡ 12 + n + 1 = length_sheet c mem ∙ ap (λ (k : ℕ). 12 + k + 1) (sym counted) in
         let fits : length (sheet_of c mem) ≤ length s = omega arith in
-        rw (← asked, e, le-ltb (length s) (length (sheet_of c mem)) fits, ← sets_front (sheet_of c mem) s fits, size, q, p, f, counted, sheet_put c mem s)
+        rw (length_passes (length mem) passed, le-ltb (length s) (length (sheet_of c mem)) fits, ← sets_front (sheet_of c mem) s fits, size, q, p, f, counted, sheet_put c mem s)

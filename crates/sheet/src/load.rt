@@ -4,7 +4,7 @@ ghost use Rattle.sheet.specs.Load.{left, load_words_of, Reading, sheet_reads, te
 
 use crate::fields::{Record, record_of, with_register};
 use crate::memory::{clear, copy, put};
-use emulator::{Core, refuses_length};
+use emulator::{Core, check_length};
 
 // What a load comes to: done, or refused with the number of the test that failed.
 #[derive(Clone, Copy)]
@@ -23,10 +23,10 @@ pub struct Load {
 pub fn load_words(words: &[u16], memory: &mut [u16]) -> Load
     ensures { left result.answer result.core memory.new ≡ load_words_of words.now memory.old }
 {
-    if refuses_length(memory.len()) {
+    if let Err(refusal) = check_length(memory.len()) {
         return Load {
             core: Core::new(),
-            answer: Loaded::Refused(1),
+            answer: Loaded::Refused(refusal.number()),
         };
     }
     if memory.len() < words.len() {
@@ -119,10 +119,10 @@ fn apply_sheet(sheet: &[u32], memory: &mut [u16]) -> Core
 pub fn load_sheet(sheet: &[u32], memory: &mut [u16]) -> Load
     ensures { left result.answer result.core memory.new ≡ load_sheet_of sheet.now memory.old }
 {
-    if refuses_length(memory.len()) {
+    if let Err(refusal) = check_length(memory.len()) {
         return Load {
             core: Core::new(),
-            answer: Loaded::Refused(1),
+            answer: Loaded::Refused(refusal.number()),
         };
     }
     let tested = test_sheet(sheet, memory.len());

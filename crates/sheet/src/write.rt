@@ -5,7 +5,7 @@ ghost use Rattle.instructions.specs.Bounded.{Bounded};
 ghost use Rattle.sheet.specs.Write.{wrote, preset_record, presets_from, records_at, stretches_from, nonzero, words_in, write_sheet_of};
 
 use crate::fields::register;
-use emulator::{Core, refuses_length};
+use emulator::{Core, check_length};
 
 // What a write comes to: the number of records written, or refused with the number of the test that failed.
 #[derive(Clone, Copy)]
@@ -117,8 +117,8 @@ fn put_stretches(memory: &[u16], sheet: &mut [u32])
 pub fn write_sheet(core: Core, memory: &[u16], sheet: &mut [u32]) -> Written
     ensures { wrote result sheet.new ≡ write_sheet_of core memory.now sheet.old }
 {
-    if refuses_length(memory.len()) {
-        return Written::Refused(1);
+    if let Err(refusal) = check_length(memory.len()) {
+        return Written::Refused(refusal.number());
     }
     let words = count_words(memory);
     let end = 12 + count_records(memory);
