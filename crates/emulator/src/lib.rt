@@ -15,6 +15,7 @@ pub use core_record::{Answer, Core, LoggedRun, Run, Step};
 pub use cycle::{End, turns};
 pub use lent::{step_by_lent, step_lent};
 pub use log::{Purpose, address_word};
+pub use memory::place;
 pub use refusal::{LogEnd, Refusal, check_length};
 pub use stop::{Fault, Stop};
 pub use store::Store;

@@ -1,3 +1,2 @@
 pub mod Tapes
-pub mod Goes
 pub mod Replays

@@ -1,37 +1,21 @@
--- Laws of the replay: one for each way through its loop, the loop's invariant, and the answer by the place where the replay ends.
-use Prim.Native.Nat.{ℕ, ◌+◌, ◌-◌, ◌<◌, ◌≤◌}
-use mathlib.Core.Bool.{Bool, true, false}
-use mathlib.Core.List.{List, [], ◌++◌, append-nil, append_assoc, append_cancel_left, append_cancel_right}
-use mathlib.Core.Path.{◌≡◌, refl, sym, ap, ◌∙◌}
+-- The replay's loop ends where the log is left; what it answers is what the whole run on the tape would.
+use Rattle.std.specs.Prelude.{◌≡◌, ℕ, zero, suc, ◌+◌, Bool, true, false, ◌&&◌, not, List, [], ◌++◌, length, drop, eqb, if◌then◌else◌}
+use mathlib.Core.List.{append-nil, append_assoc}
+use mathlib.Core.Path.{refl, sym, ap, ◌∙◌}
 use native.Mathlib.Omega.{arith}
-use Rattle.std.specs.Prelude.{Ok, Err}
-use lib.Dec.{ltb}
-use lib.ListN.{length, take, drop, take-append-drop, length-take}
-use lib.Seq.{take-length}
-use mir.Syntax.{w32}
-use mir.Val.{Fits}
-use borrow.Author.Tests.{ltb-true, ltb-false, lt-ltb, le-ltb}
-use Rattle.instructions.proofs.Cases.{by_test}
-use Rattle.emulator.specs.Core.{core_of, is_halted}
-use Rattle.emulator.specs.Log.{Logged, logged, read_log}
-use Rattle.emulator.specs.Memory.{length_test}
-use Rattle.emulator.specs.Outcome.{Outcome, progress_of, refusal_number, end_of, refused}
-use Rattle.emulator.specs.Machine.{plan_of, Store, Turn, turn, cycle_of, Ran, ran, next_of, plain, run_from}
+use Rattle.instructions.proofs.Cases.{by_test, if_elim, if_both}
+use Rattle.emulator.specs.Core.{is_halted}
+use Rattle.emulator.specs.Log.{read_log, Logged, logged}
+use Rattle.emulator.specs.Memory.{refused_length}
+use Rattle.emulator.specs.Outcome.{Outcome, halted, limit, refused, ended, end_of}
+use Rattle.emulator.specs.Machine.{Plan, plan_of, Store, Turn, cycle_of, Ran, ran, is_stepped, next_of, plain, full_in, run_until, run_from}
 use Rattle.emulator.specs.declared.core_record.Core.{Core}
-use Rattle.emulator.specs.declared.core_record.Run.{Run}
 use Rattle.emulator.specs.declared.cycle.End.{End}
-use Rattle.emulator.specs.declared.effects.Applied.{Applied}
-use Rattle.emulator.specs.declared.effects.Progress.{Progress}
 use Rattle.emulator.specs.declared.refusal.LogEnd.{LogEnd}
-use Rattle.emulator.specs.declared.refusal.Refusal.{Refusal}
-use Rattle.emulator.specs.declared.stop.Stop.{Stop}
-use Rattle.emulator.proofs.Laws.{length_passes, length_fails}
 use Rattle.emulator.proofs.Keeps.{Leads, next_leads, run_leads}
-use Rattle.emulator.proofs.Runs.{stop_elim, run_halted, run_limit, run_turn, one_more}
-use Rattle.replay.specs.Places.{Along, Off, Goes, finished_of}
-use Rattle.replay.specs.Replay.{Tape, tape, tape_store, Replayed, replayed, answer_of, replay_of}
-use Rattle.replay.specs.declared.cycle.Turned.{Turned}
-use Rattle.replay.proofs.Tapes.{same_self, same_not}
+use Rattle.replay.specs.Places.{begins}
+use Rattle.replay.specs.Replay.{Tape, tape, tape_store, same, Replayed, replayed, answer_of, replay_of}
+use Rattle.replay.proofs.Tapes.{begins_append, same_is}
 
 -- a log only grows: the log at the end begins with the log by now
 pub record Begins (l l' : List ℕ) : Type 0 where
@@ -47,128 +31,69 @@ begins_leads on =
       write = λ l m a v. record { more = []; is = sym (append-nil l) };
     }
 
--- what is logged up to k, and from there to j
-taken : (l : List ℕ) (k j : ℕ) (a : List ℕ) → Along l k j a → take k l ++ a ≡ take j l
-taken l k j a h =
-    append_cancel_right (take k l ++ a) (take j l) (drop j l)
-    (append_assoc (take k l) a (drop j l) ∙ (ap (λ (x : List ℕ). take k l ++ x) (sym h.stands) ∙ (take-append-drop k l ∙ sym (take-append-drop j l))))
+-- a run that its log may end, u, and the plain one, r: they are one, or the first ended at a log that the second's begins with
+pub data Until {S : Type 0} (over : List ℕ → Bool) (u r : Logged (Ran S)) : Type 0 where
+  whole : u ≡ r → Until over u r
+  cut : over u.log ≡ true → Begins u.log r.log → Until over u r
 
--- the replay's run on the tape
-abbrev whole : ℕ → List ℕ → ℕ → Core → Logged (Ran Tape)
-whole size l most c₀ = run_from tape_store plan_of plain most 0 c₀ (tape size l) []
+module _ {S : Type 0} (on : Store S) (plan : Core → ℕ → Plan) (over : List ℕ → Bool) (why : LogEnd) where
+  next_until : (more more' : Core → S → List ℕ → Logged (Ran S)) (n : ℕ) (l : List ℕ) → ((c : Core) (m : S) (k : List ℕ) → Until over (more c m k) (more' c m k))
+      → (t : Logged (Turn S)) → Until over (next_of more n l t) (next_of more' n l t)
+  next_until more more' n l h t =
+      if_both (Until over) (is_stepped t.result.outcome) (is_stepped t.result.outcome) refl (λ _. h t.result.core t.result.memory (l ++ t.log)) (λ _. whole refl)
 
--- the loop's invariant: what is left of the run is the whole run, and the log so far is that up to k
-pub record Replaying (size : ℕ) (l : List ℕ) (most : ℕ) (c₀ c : Core) (n k : ℕ) : Type 0 where
-  pub bounded : Fits w32 most
-  pub within : n ≤ most
-  pub place : k ≤ length l
-  pub rest : run_from tape_store plan_of plain (most - n) n c (tape size (drop k l)) (take k l) ≡ whole size l most c₀
+  pub until : (k n : ℕ) (c : Core) (m : S) (l : List ℕ) → Until over (run_until on plan over why k n c m l) (run_from on plan plain k n c m l)
+  unfolding run_until
+  until zero n c m l = if_both (Until over) (is_halted c) (is_halted c) refl (λ _. whole refl) (λ _. whole refl)
+  until (suc k) n c m l =
+      if_both (Until over) (is_halted c) (is_halted c) refl
+      (λ _. whole refl)
+      (λ _. if_elim (λ (u : Logged (Ran S)). Until over u (next_of on' n l t)) (over l)
+      (λ e. cut e ((begins_leads on).next {m = m} {m₁ = m} {m₂ = m} (record { more = t.log; is = refl }) (next_leads on (begins_leads on) on' n l (run_leads on (begins_leads on) plan (full_in plain) LogEnd.Full k (n + 1)) t)))
+      (λ _. next_until (run_until on plan over why k (n + 1)) on' n l (until k (n + 1)) t))
+    where
+      t : Logged (Turn S)
+      t = cycle_of on plan c m
 
-pub replaying_start : (size : ℕ) (l : List ℕ) (most : ℕ) (c : Core) → Fits w32 most → Replaying size l most c c 0 0
-replaying_start size l most c f =
-    let all : most - 0 ≡ most = omega arith in
-    record { bounded = f; within = omega arith; place = omega arith; rest = rw all }
+      on' : Core → S → List ℕ → Logged (Ran S)
+      on' = run_from on plan plain k (n + 1)
 
--- the answer, by the place where the replay ends; and off the log
-abbrev off : Core → Run
-off c = record { core = c; steps = 0; end = End.Log LogEnd.Mismatch }
+-- what the loop leaves of the tape, and the replay by that
+module _ (c : Core) (size most : ℕ) (log : List ℕ) where
+  abbrev off : List ℕ → Bool
+  off l = not (true && begins l log)
 
-module _ (size : ℕ) (l : List ℕ) (most : ℕ) (c₀ : Core) where
-  abbrev answer : Replayed
-  answer = answer_of c₀ l (whole size l most c₀)
+  abbrev looped : Logged (Ran Tape)
+  looped = run_until tape_store plan_of off LogEnd.Mismatch most 0 c (tape size log) []
 
-  ends : (x : End) (n : ℕ) (c : Core) (t : Tape) (k : ℕ) → k ≤ length l → logged (ran (end_of x) n c t) (take k l) ≡ whole size l most c₀
-      → finished_of c₀ (length l) (record { core = c; steps = n; end = x }) k ≡ answer
-  ends x n c t k h e =
-      by_test (ltb k (length l))
-      (λ b. let under : k < length l = ltb-true _ _ b in
-      rw (b, ← e, same_not (take k l) l (λ z. let long = ap length z in omega (arith, length-take k l))))
-      (λ b. let all : k ≡ length l = omega (arith, ltb-false k (length l) b) in
-      rw (b, ← e, all, take-length l, same_self l))
+  abbrev run : Logged (Ran Tape)
+  run = run_from tape_store plan_of plain most 0 c (tape size log) []
 
-  left_log : (t : Logged (Turn Tape)) (n k j : ℕ) → next_of (run_from tape_store plan_of plain j (n + 1)) n (take k l) t ≡ whole size l most c₀ → Off l k t.log
-      → finished_of c₀ (length l) (off c₀) (length l) ≡ answer
-  left_log t n k j e o =
-      let b : Begins (take k l ++ t.log) (whole size l most c₀).log =
-      rw (← e) (next_leads tape_store (begins_leads tape_store) (run_from tape_store plan_of plain j (n + 1)) n (take k l) (run_leads tape_store (begins_leads tape_store) plan_of plain j (n + 1)) t) in
-      let here : length l ≤ length l = omega arith in
-      rw (
-        le-ltb (length l) (length l) here,
-        same_not (whole size l most c₀).log l
-            (λ z. o b.more (append_cancel_left (take k l) (drop k l) (t.log ++ b.more)
-            (take-append-drop k l ∙ (sym z ∙ (b.is ∙ append_assoc (take k l) t.log b.more))))),
-      )
-
-module _ {size : ℕ} {l : List ℕ} {most : ℕ} {c₀ c : Core} {n k : ℕ} (now : Replaying size l most c₀ c n k) where
-  pub counts : (n ≡ most → ⊥) → Fits w32 (n + 1)
-  counts = one_more now.bounded now.within
-
-  pub replay_halted : {h : Bool} → h ≡ is_halted c → h ≡ true
-      → finished_of c₀ (length l) (record { core = c; steps = n; end = End.Halted }) k ≡ answer size l most c₀
-  replay_halted p q =
-      ends size l most c₀ End.Halted n c (tape size (drop k l)) k now.place
-      (sym (run_halted tape_store plan_of plain c (tape size (drop k l)) n (take k l) (most - n) (sym p ∙ q)) ∙ now.rest)
-
-  pub replay_limit : {h : Bool} → h ≡ is_halted c → h ≡ false → n ≡ most
-      → finished_of c₀ (length l) (record { core = c; steps = n; end = End.Limit }) k ≡ answer size l most c₀
-  replay_limit p q e =
-      let none_left : most - n ≡ 0 = omega arith in
-      ends size l most c₀ End.Limit n c (tape size (drop k l)) k now.place
-      (sym (ap (λ (j : ℕ). run_from tape_store plan_of plain j n c (tape size (drop k l)) (take k l)) none_left ∙ run_limit tape_store plan_of plain c (tape size (drop k l)) n (take k l) (sym p ∙ q))
-      ∙ now.rest)
-
-  -- a cycle: what it leaves, u, is followed by the rest of the run
-  abbrev cycled : Logged (Turn Tape)
-  cycled = cycle_of tape_store plan_of c (tape size (drop k l))
-
-  abbrev then : Logged (Turn Tape) → Logged (Ran Tape)
-  then u = next_of (run_from tape_store plan_of plain (most - (n + 1)) (n + 1)) n (take k l) u
-
-  module _ {h : Bool} (p : h ≡ is_halted c) (q : h ≡ false) (below : n ≡ most → ⊥) where
-    next : then cycled ≡ whole size l most c₀
-    next =
-        let w = now.within in
-        sym (run_turn tape_store plan_of plain c (tape size (drop k l)) n (take k l) most (sym p ∙ q) (omega arith) refl refl) ∙ now.rest
-
-    module _ (gprs : List ℕ) (x : Turned) (goes : Goes size l k gprs x cycled) where
-      pub replay_off : {r : Run} → x ≡ Turned.Mismatch → r ≡ off c₀ → finished_of c₀ (length l) r (length l) ≡ answer size l most c₀
-      replay_off e r = rw r (left_log size l most c₀ cycled n k (most - (n + 1)) next (rw e at goes))
-
-      module _ {t : Applied} {j : ℕ} (e : x ≡ Turned.Cycled t j) where
-        abbrev after : Core
-        after = core_of gprs t.ip t.rp t.sp t.ef
-
-        along : Along l k j cycled.log
-        along = (rw e at goes).0
-
-        -- the turn that was made, and the log up to j
-        turned : then (logged (turn (progress_of t.progress) after (tape size (drop j l))) cycled.log) ≡ whole size l most c₀
-        turned = ap (λ (z : Turn Tape). then (logged z cycled.log)) (rw e at goes).1 ∙ next
-
-        pub replaying_step : t.progress ≡ Progress.Stepped → Replaying size l most c₀ after (n + 1) j
-        replaying_step s =
-            let w = now.within in
-            record { bounded = now.bounded; within = omega arith; place = along.within; rest = rw (← (taken l k j _ along)) (rw s at turned) }
-
-        pub replay_fault : {s : Stop} → t.progress ≡ Progress.Fault s
-            → finished_of c₀ (length l) (record { core = after; steps = n; end = End.Fault s }) j ≡ answer size l most c₀
-        replay_fault {s} f =
-            ends size l most c₀ (End.Fault s) n after (tape size (drop j l)) j along.within
-            (rw (← (taken l k j _ along))
-            (stop_elim (λ (o : Outcome). logged (ran o n after (tape size (drop j l))) (take k l ++ cycled.log) ≡ then (logged (turn o after (tape size (drop j l))) cycled.log)) (λ i v. refl) s
-            ∙ rw f at turned))
-
--- the replay, by host test 1 and the place where its loop ended
-module _ (c : Core) (size most : ℕ) (l : List ℕ) where
-  pub replay_refused : (r : Refusal) → Err r ≡ length_test size → replayed (refused (refusal_number r)) 0 c ≡ replay_of plan_of c size most l
+  pub replay_refused : refused_length size ≡ true → replayed (refused 1) 0 c ≡ replay_of plan_of c size most log
   unfolding replay_of
-  replay_refused r e = let f = length_fails size e in rw (f.0, f.1)
+  replay_refused e = rw e
 
-  module _ {u : Unit {0}} (passed : Ok u ≡ length_test size) (run : Run) {k : ℕ} (h : finished_of c (length l) run k ≡ answer size l most c) where
-    pub replay_left_over : {r : Run} → k < length l → r ≡ off c → replayed (end_of r.end) r.steps r.core ≡ replay_of plan_of c size most l
-    unfolding replay_of
-    replay_left_over below r = rw (length_passes size passed, ← h, r, lt-ltb k (length l) below)
+  left_off : (b : Bool) → not (true && b) ≡ true → b ≡ false
+  left_off true e = absurd (let z : ◌≡◌ {A = ℕ} 0 1 = cc in omega arith)
+  left_off false e = refl
 
-    pub replay_whole : length l ≤ k → replayed (end_of run.end) run.steps run.core ≡ replay_of plan_of c size most l
+  -- the answer of the whole run, by the log of the loop
+  abbrev answer : Bool → Replayed
+  answer b = if b then replayed looped.result.end looped.result.steps looped.result.core else replayed (ended 31) 0 c
+
+  answered : Until off looped run → answer (begins looped.log log && eqb (length (drop (length looped.log) log)) 0) ≡ answer_of c log run
+  answered (whole u) = rw (← u, same_is looped.log log)
+  answered (cut e b) = rw (same_is run.log log, b.is, begins_append looped.log b.more log, left_off _ e)
+
+  module _ (accepted : refused_length size ≡ false) {m read : Bool} {t : List ℕ} (so : m ≡ (true && begins looped.log log)) (at : t ≡ drop (length looped.log) log)
+      (asked : read ≡ (m && eqb (length t) 0)) where
+    told : answer read ≡ replay_of plan_of c size most log
     unfolding replay_of
-    replay_whole past = rw (length_passes size passed, ← h, le-ltb k (length l) past)
+    told = rw (accepted, asked, so, at) (answered (until tape_store plan_of off LogEnd.Mismatch most 0 c (tape size log) []))
+
+    -- the log is that of the run, and it isn't
+    pub replay_seen : {o : Outcome} {n : ℕ} {d : Core} {x : Tape} → ran o n d x ≡ looped.result → read ≡ true → replayed o n d ≡ replay_of plan_of c size most log
+    replay_seen left e = ap (λ (r : Ran Tape). replayed r.end r.steps r.core) left ∙ rw e at told
+
+    pub replay_off : read ≡ false → replayed (ended 31) 0 c ≡ replay_of plan_of c size most log
+    replay_off e = rw e at told

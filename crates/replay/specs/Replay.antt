@@ -1,12 +1,11 @@
 -- The replay of a log, without the memory (document 02, CR 2).
-use Rattle.std.specs.Prelude.{ℕ, ◌%◌, Bool, true, false, List, [], ◌∷◌, ltb, eqb, get_or, drop, if◌then◌else◌}
+use Rattle.std.specs.Prelude.{ℕ, ◌%◌, Bool, true, false, List, [], ◌∷◌, ltb, eqb, get_or, drop, if◌then◌else◌, Result, Ok, Err}
 use Rattle.emulator.specs.Log.{Logged}
 use Rattle.emulator.specs.Memory.{refused_length, Accessed, accessed}
 use Rattle.emulator.specs.Outcome.{Outcome, refused, ended}
 use Rattle.emulator.specs.Machine.{Plan, Store, Ran, plain, run_from}
 use Rattle.emulator.specs.declared.core_record.Core.{Core}
-use Rattle.emulator.specs.declared.memory.Read.{Read}
-use Rattle.emulator.specs.declared.memory.Write.{Write}
+use Rattle.emulator.specs.declared.stop.Stop.{Stop}
 use Rattle.emulator.specs.declared.stop.Stop.TheVariants.{OutOfRange}
 
 -- what stands in memory's place: its length, and the log words that are still to be read
@@ -21,14 +20,14 @@ tape n l = record { size = n; rest = l }
 abbrev pub word_in : List ℕ → ℕ
 word_in l = get_or l 1 0 % 65536
 
-unfoldable pub read_tape : Tape → ℕ → Accessed Tape Read
+unfoldable pub read_tape : Tape → ℕ → Accessed Tape (Result ℕ Stop)
 read_tape t a =
     if ltb a t.size
-    then accessed (Read.Word (word_in t.rest)) (tape t.size (drop 2 t.rest))
-    else accessed (Read.Stopped (OutOfRange a)) t
+    then accessed (Ok (word_in t.rest)) (tape t.size (drop 2 t.rest))
+    else accessed (Err (OutOfRange a)) t
 
-unfoldable pub write_tape : Tape → ℕ → ℕ → Accessed Tape Write
-write_tape t a v = if ltb a t.size then accessed Write.Done t else accessed (Write.Stopped (OutOfRange a)) t
+unfoldable pub write_tape : Tape → ℕ → ℕ → Accessed Tape (Result (Unit {0}) Stop)
+write_tape t a v = if ltb a t.size then accessed (Ok tt) t else accessed (Err (OutOfRange a)) t
 
 abbrev pub tape_store : Store Tape
 tape_store = record { read = read_tape; write = write_tape }

@@ -1,83 +1,76 @@
 // The log in memory's place: each read must be the next two words.
-ghost use Rattle.std.specs.Prelude.{◌≡◌, ◌≤◌, length, drop};
-ghost use Rattle.emulator.specs.Machine.{access_of, make_of};
-ghost use Rattle.replay.specs.Places.{is_read, found_of, Replies};
-ghost use Rattle.replay.specs.Replay.{tape, tape_store};
+ghost use Rattle.std.specs.Prelude.{◌≡◌, ◌&&◌, length, drop, eqb, not, refl};
+ghost use Rattle.replay.specs.Places.{is_entry, begins, begun};
+ghost use Rattle.replay.specs.Replay.{Tape, tape, tape_store};
+ghost use Rattle.emulator.specs.declared.refusal.LogEnd.TheVariants.{Mismatch};
 
-use emulator::{Purpose, Reply, Stop, address_word};
-use execute::Effect;
+use emulator::{LogEnd, Purpose, Stop, Store, address_word, place};
 
-// What a read finds.
-#[derive(Clone, Copy)]
-pub enum Found {
-    Word(u16),
-    Stopped(Stop),
-    Mismatch,
-}
-
-// What an access comes to, and the place in the log after it.
-#[derive(Clone, Copy)]
-pub enum Recorded {
-    Reply(Reply, usize),
-    Mismatch,
-}
-
-// Whether the next two words of the log are the read.
-fn is_read(log: &[u32], at: usize, purpose: Purpose, address: u16) -> bool
-    requires { at ≤ length log.now }
-    ensures { result ≡ is_read purpose address (drop at log.now) }
+// Whether two log words are the read.
+fn is_entry(purpose: Purpose, address: u16, named: u32, value: u32) -> bool
+    ensures { result ≡ is_entry purpose address named value }
 {
-    if log.len() - at < 2 {
-        return false;
-    }
-    if log[at] == address_word(purpose, address) {
-        log[at + 1] / 0x10000 == 0x5000
-    } else {
-        false
+    named == address_word(purpose, address) && value / 0x10000 == 0x5000
+}
+
+// The length of the memory that was run on, the words that are still to be read, and whether the reads so far are the log's.
+#[derive(Drop)]
+pub struct LogTape<'a> {
+    pub size: usize,
+    pub rest: &'a [u32],
+    pub matches: bool,
+}
+
+impl LogTape<'_> {
+    // Whether the reads were the log's, and all of it is read.
+    pub fn is_read(&self) -> bool
+        ensures { result ≡ (self.now.matches && eqb (length self.now.rest.now) 0) }
+    {
+        self.matches && self.rest.is_empty()
     }
 }
 
-// Reads at a place of the log. The memory that was run on had `size` words.
-pub fn read_log(size: usize, log: &[u32], at: usize, purpose: Purpose, address: u16) -> Found
-    requires { at ≤ length log.now }
-    ensures { result ≡ found_of size (drop at log.now) purpose address }
-{
-    if size <= address as usize {
-        return Found::Stopped(Stop::OutOfRange(address));
-    }
-    if is_read(log, at, purpose, address) {
-        let value = log[at + 1];
-        Found::Word((value % 0x10000) as u16)
-    } else {
-        Found::Mismatch
-    }
-}
+impl Store for LogTape<'_> {
+    ghost Seen = { Tape };
 
-// Makes the access that an effect leaves to be made: only a load reads the log.
-pub fn access(effect: Effect, size: usize, log: &[u32], at: usize) -> Recorded
-    requires { at ≤ length log.now }
-    ensures { Replies size log.now at result (make_of tape_store (access_of effect) (tape size (drop at log.now))) }
-{
-    match effect {
-        Effect::Load {
-            address,
-            into: _,
-            raise: _,
-        } => match read_log(size, log, at, Purpose::Read, address) {
-            Found::Word(word) => Recorded::Reply(Reply::Word { address, word }, at + 2),
-            Found::Stopped(stop) => Recorded::Reply(Reply::Stopped(stop), at),
-            Found::Mismatch => Recorded::Mismatch,
-        },
-        Effect::Store {
-            address,
-            value: _,
-            lower: _,
-        } => {
-            if size <= address as usize {
-                return Recorded::Reply(Reply::Stopped(Stop::OutOfRange(address)), at);
-            }
-            Recorded::Reply(Reply::Done, at)
+    ghost seen = { λ s. tape s.size s.rest.now };
+
+    ghost store = { tape_store };
+
+    ghost Noted = { λ start now l. (now.rest.now ≡ drop (length l) start.rest.now) × (now.matches ≡ (start.matches && begins l start.rest.now)) };
+
+    ghost over = { λ start l. not (start.matches && begins l start.rest.now) };
+
+    ghost why = { Mismatch };
+
+    #[tactic(auto, unfolding(crate::specs::Replay::read_tape))]
+    fn read(&mut self, purpose: Purpose, address: u16) -> Result<u16, Stop> {
+        place(self.size, address)?;
+        if self.rest.len() < 2 {
+            self.rest = &[];
+            self.matches = false;
+            return Ok(0);
         }
-        _ => Recorded::Reply(Reply::Done, at),
+        let named = self.rest[0];
+        let value = self.rest[1];
+        self.rest = &self.rest[2..];
+        self.matches &= is_entry(purpose, address, named, value);
+        Ok((value % 0x10000) as u16)
     }
+
+    #[tactic(auto, unfolding(crate::specs::Replay::write_tape))]
+    fn write(&mut self, address: u16, _value: u16) -> Result<(), Stop> {
+        place(self.size, address)?;
+        Ok(())
+    }
+
+    fn log_end(&self) -> Option<LogEnd> {
+        if self.matches {
+            None
+        } else {
+            Some(LogEnd::Mismatch)
+        }
+    }
+
+    ghost begun = { λ start. (refl, begun start.matches start.rest.now) };
 }
