@@ -1,26 +1,24 @@
 -- Two runs agree: they go side by side over the same core and marks, while their memories are alike. A word is the same in both if it was
 -- written, or if the first run's final marks say that it is read. Nothing here looks at an instruction.
-use Prim.Native.Nat.{ℕ, ◌<◌}
-use mathlib.Core.List.{List, []}
-use mathlib.Core.Path.{◌≡◌, refl, sym, ap, ◌∙◌, subst}
-use mathlib.Core.Logic.{◌≢◌, ⊎_elim}
+use Rattle.std.specs.Prelude.{◌≡◌, ◌≢◌, ℕ, ◌<◌, ltb, List, [], length, get_or, set, replicate, Result, Ok, Err}
+use mathlib.Core.Path.{refl, sym, ap, ◌∙◌, subst}
+use mathlib.Core.Logic.{⊎_elim}
 use native.Mathlib.Omega.{arith}
-use lib.Dec.{ltb}
-use lib.ListN.{length, get_or, set, replicate, length-set, length-replicate}
+use lib.ListN.{length-set, length-replicate}
 use lib.Seq.{get_or-set_same, get_or-set_other}
 use borrow.Author.Tests.{ltb-true}
 use Rattle.instructions.proofs.Cases.{if_both}
 use Rattle.run_laws.specs.Agreement.{word_at, mark_at, AgreeLogged, equal_room, enough_room, AgreementOf, Agreement, PlainAgreement}
 use Rattle.emulator.specs.Log.{Logged, logged}
 use Rattle.emulator.specs.Memory.{Memory, lent, was_read, was_written, read_mark, write_mark, mark_read, mark_write, Accessed, read_of, write_of, Below}
-use Rattle.emulator.specs.Machine.{Plan, plan_of, Access, none, load, store, stop, advanced, memory_store, refusal_of, unmarked, Ran, ran, Setting, plain, run_from, run_in, run_of}
+use Rattle.emulator.specs.Machine.{Plan, plan_of, Access, none, load, store, stop, advanced, memory_store, refusal_of, unmarked, Ran, ran, Setting, full_in, plain, run_from, run_in, run_of}
 use Rattle.emulator.specs.declared.core_record.Core.{Core}
-use Rattle.emulator.specs.declared.memory.Read.{Read}
-use Rattle.emulator.specs.declared.memory.Write.{Write}
+use Rattle.emulator.specs.declared.refusal.LogEnd.TheVariants.{Full}
+use Rattle.emulator.specs.declared.stop.Stop.{Stop}
 use Rattle.emulator.proofs.Fill.{get_d_zeros}
 use Rattle.emulator.proofs.Marks.{written_cases, same_or_not, read_sets, write_sets, written_read}
 use Rattle.emulator.proofs.Laws.{accepted_marked}
-use Rattle.emulator.proofs.Runs.{accepted_run}
+use Rattle.emulator.proofs.Whole.{accepted_run}
 use Rattle.emulator.proofs.Keeps.{Leads, kept_leads}
 use Rattle.run_laws.proofs.Simulation.{ReadFits, AccessFits, Same, Simulates, twin_run}
 use Rattle.run_laws.proofs.Logs.{logged_plain}
@@ -103,9 +101,9 @@ seen_leads F =
 abbrev Any : ℕ → Type 0
 Any w = Unit {0}
 
-any_read : (r : Read) → ReadFits Any r
-any_read (Read.Word w) = tt
-any_read (Read.Stopped s) = tt
+any_read : (r : Result ℕ Stop) → ReadFits Any r
+any_read (Ok w) = tt
+any_read (Err s) = tt
 
 any_access : (x : Access) → AccessFits Any x
 any_access none = tt
@@ -131,16 +129,16 @@ module _ {M N : List ℕ} (F : List ℕ) (agree : (a : ℕ) → was_read (get_or
   twin_read : (m m' : Memory) (a : ℕ) → Alike M N m m' → Seen F (read_of m a).memory → Same (read_of m a) (read_of m' a) (Alike M N)
   unfolding read_of
   twin_read m m' a h below =
-      if_both (λ (x y : Accessed Memory Read). Seen F x.memory → Same x y (Alike M N)) (ltb a (length m.words)) (ltb a (length m'.words))
+      if_both (λ (x y : Accessed Memory (Result ℕ Stop)). Seen F x.memory → Same x y (Alike M N)) (ltb a (length m.words)) (ltb a (length m'.words))
       (ap (λ (n : ℕ). ltb a n) h.sizes)
-      (λ e low. record { answer = ap Read.Word (sym (same_word a (ltb-true _ _ e) h low)); kept = alike_read a h })
+      (λ e low. record { answer = ap Ok (sym (same_word a (ltb-true _ _ e) h low)); kept = alike_read a h })
       (λ e low. record { answer = refl; kept = h })
       below
 
   twin_write : (m m' : Memory) (a v : ℕ) → Alike M N m m' → Same (write_of m a v) (write_of m' a v) (Alike M N)
   unfolding write_of
   twin_write m m' a v h =
-      if_both (λ (x y : Accessed Memory Write). Same x y (Alike M N)) (ltb a (length m.words)) (ltb a (length m'.words)) (ap (λ (n : ℕ). ltb a n) h.sizes)
+      if_both (λ (x y : Accessed Memory (Result (Unit {0}) Stop)). Same x y (Alike M N)) (ltb a (length m.words)) (ltb a (length m'.words)) (ap (λ (n : ℕ). ltb a n) h.sizes)
       (λ e. record { answer = refl; kept = alike_write a v (ltb-true _ _ e) h })
       (λ e. record { answer = refl; kept = h })
 
@@ -203,7 +201,7 @@ module _ (plan : Core → ℕ → Plan) (given : Setting) (c : Core) (limit : �
       → AgreeLogged m m' (run_in plan given c m limit) (run_in plan given c m' limit)
   in_one_setting agree =
       rw (accepted_run plan given c m limit ok, accepted_run plan given c m' limit ok')
-      (let t = twin_run memory_store memory_store plan Any (λ d. Unit {0}) (λ l. Alike m.words m'.words) (λ l. Seen F) (twins F agree₁ plan) given limit 0 c (unmarked m) (unmarked m') [] tt start (λ a e. e) in
+      (let t = twin_run memory_store memory_store plan Any (λ d. Unit {0}) (λ l. Alike m.words m'.words) (λ l. Seen F) (twins F agree₁ plan) (full_in given) Full limit 0 c (unmarked m) (unmarked m') [] tt start (λ a e. e) in
       whole t.same t.alike)
     where
       F : List ℕ

@@ -1,17 +1,17 @@
 -- Marks only grow and lengths never change, and a run is its steps.
-use Prim.Native.Nat.{ℕ, zero, suc, ◌+◌}
-use mathlib.Core.List.{List, [], ◌++◌}
-use mathlib.Core.Path.{◌≡◌, ap, ◌∙◌}
-use lib.ListN.{length, length-replicate}
+use Rattle.std.specs.Prelude.{◌≡◌, ℕ, zero, suc, ◌+◌, List, [], ◌++◌, length}
+use mathlib.Core.Path.{ap, ◌∙◌}
+use lib.ListN.{length-replicate}
 use borrow.Author.Tests.{eq-eqb}
 use Rattle.emulator.specs.Core.{is_halted}
 use Rattle.emulator.specs.Log.{Logged}
 use Rattle.emulator.specs.Memory.{Memory, Kept}
-use Rattle.emulator.specs.Machine.{Plan, plan_of, memory_store, Turn, cycle_of, refusal_of, unmarked, step_of, Ran, is_stepped, next_of, plain, run_from, run_of}
+use Rattle.emulator.specs.Machine.{Plan, plan_of, memory_store, Turn, cycle_of, refusal_of, unmarked, step_of, Ran, is_stepped, next_of, full_in, plain, run_until, run_from, run_of}
 use Rattle.emulator.specs.declared.core_record.Core.{Core}
+use Rattle.emulator.specs.declared.refusal.LogEnd.TheVariants.{Full}
 use Rattle.instructions.proofs.Cases.{by_test}
 use Rattle.emulator.proofs.Keeps.{kept_leads, cycle_keeps, step_keeps, run_leads}
-use Rattle.emulator.proofs.Runs.{accepted_run}
+use Rattle.emulator.proofs.Whole.{accepted_run}
 use Rattle.run_laws.specs.Claims.{Keeping, after_step, steps_from, RunIsSteps}
 
 -- an accepted run without a log is its turns from marks that are all 0
@@ -21,7 +21,7 @@ unfolding run_of
 turns_of plan c m limit ok = ap (λ (r : Logged (Ran Memory)). r.result) (accepted_run plan plain c m limit ok)
 
 run_keeps : (plan : Core → ℕ → Plan) (c : Core) (m : Memory) (limit : ℕ) → refusal_of m ≡ 0 → Kept (unmarked m) (run_of plan c m limit).memory
-run_keeps plan c m limit ok = rw (turns_of plan c m limit ok) (run_leads memory_store kept_leads plan plain limit 0 c (unmarked m) [])
+run_keeps plan c m limit ok = rw (turns_of plan c m limit ok) (run_leads memory_store kept_leads plan (full_in plain) Full limit 0 c (unmarked m) [])
 
 pub keeping : Keeping
 keeping = record { step_keeps = step_keeps plan_of; run_keeps = run_keeps plan_of }
@@ -39,7 +39,7 @@ next_is_step more steps n l t h = by_test (is_stepped t.result.outcome) (λ e. r
 
 -- the turns of accepted memory are its steps, whatever is logged before
 steps_run : (k n : ℕ) (c : Core) (m : Memory) (l : List ℕ) → refusal_of m ≡ 0 → (run_from memory_store plan_of plain k n c m l).result ≡ steps_from k n c m
-unfolding run_from steps_from step_of
+unfolding run_until steps_from step_of
 steps_run zero n c m l ok = by_test (is_halted c) (λ h. rw h) (λ h. rw h)
 steps_run (suc k) n c m l ok =
     let t = cycle_of memory_store plan_of c m in

@@ -1,26 +1,24 @@
 -- A logged run is the plain run as far as its log has room, and how long its log is: two words a read, at most two reads a step. Nothing here
 -- looks at an instruction.
-use Prim.Native.Nat.{ℕ, zero, suc, ◌+◌, ◌-◌, ◌*◌, ◌≤◌}
-use mathlib.Core.Bool.{true, false}
-use mathlib.Core.List.{List, [], ◌++◌, append-nil, append_assoc}
-use mathlib.Core.Path.{◌≡◌, refl, ap}
+use Rattle.std.specs.Prelude.{◌≡◌, ℕ, zero, suc, ◌+◌, ◌*◌, ◌≤◌, Bool, true, false, eqb, List, [], ◌++◌, length, Result, Ok, Err}
+use mathlib.Core.List.{append-nil, append_assoc}
+use mathlib.Core.Path.{refl, ap}
 use native.Mathlib.Nat.{add-zero}
 use native.Mathlib.Omega.{arith}
-use lib.Dec.{eqb}
-use lib.ListN.{length, length-append}
-use borrow.Author.Tests.{ltb-false}
+use lib.ListN.{length-append}
 use Rattle.emulator.specs.Core.{is_halted}
-use Rattle.emulator.specs.Log.{entry_of, read_log, reply_log, Logged, logged, words, is_full}
+use Rattle.emulator.specs.Log.{entry_of, read_log, reply_log, Logged, logged}
 use Rattle.emulator.specs.Memory.{Memory}
-use Rattle.emulator.specs.Outcome.{Outcome, stepped, fault, ended, stop_of}
-use Rattle.emulator.specs.Machine.{Access, none, load, store, stop, Plan, plan_of, memory_store, read_reply, write_reply, settle_of, make_of, Turn, turn, carry_out, on_fetch, advanced, cycle_of, refusal_of, unmarked, Ran, is_stepped, next_of, Setting, setting, plain, run_from, run_in, run_of}
+use Rattle.emulator.specs.Outcome.{Outcome, stepped, fault, refused, ended, stop_of}
+use Rattle.emulator.specs.Machine.{Access, none, load, store, stop, Plan, plan_of, memory_store, read_reply, write_reply, settle_of, make_of, Turn, turn, carry_out, on_fetch, advanced, cycle_of, refusal_of, unmarked, Ran, ran, is_stepped, next_of, Setting, full_in, plain, logging_in, run_until, run_from, run_in, run_of}
 use Rattle.emulator.specs.declared.core_record.Core.{Core}
 use Rattle.emulator.specs.declared.log.Purpose.{Purpose}
-use Rattle.emulator.specs.declared.memory.Read.{Read}
-use Rattle.emulator.specs.declared.memory.Write.{Write}
+use Rattle.emulator.specs.declared.refusal.LogEnd.{LogEnd}
+use Rattle.emulator.specs.declared.refusal.LogEnd.TheVariants.{Full}
 use Rattle.emulator.specs.declared.stop.Stop.{Stop}
 use Rattle.instructions.proofs.Cases.{if_elim, if_both}
 use Rattle.emulator.proofs.Runs.{stop_elim, run_limit}
+use Rattle.emulator.proofs.Sizes.{run_fits}
 use Rattle.run_laws.specs.Agreement.{HasRoom}
 use Rattle.run_laws.specs.Logs.{LoggedIsPlain, cut_at, FullIsPlain, Reads, no_read, one_more, AtMost, LogSize}
 
@@ -74,14 +72,14 @@ access_comes : {f : List ℕ} → AtMost 1 f → (c : Core) (x : Access) (m : Me
 access_comes h c none m = steps (more_reads 2 h no_reads (omega arith))
 access_comes {f} h c (load a r up) m = by_answer (memory_store.read m a).answer
   where
-    by_answer : (x : Read) → Comes (settle_of c (load a r up) (read_reply a x)).outcome (f ++ reply_log (read_reply a x))
-    by_answer (Read.Word w) = steps (more_reads 2 h (one_read Purpose.Read a w) (omega arith))
-    by_answer (Read.Stopped s) = stop_comes (more_reads 1 h no_reads (omega arith)) s
+    by_answer : (x : Result ℕ Stop) → Comes (settle_of c (load a r up) (read_reply a x)).outcome (f ++ reply_log (read_reply a x))
+    by_answer (Ok w) = steps (more_reads 2 h (one_read Purpose.Read a w) (omega arith))
+    by_answer (Err s) = stop_comes (more_reads 1 h no_reads (omega arith)) s
 access_comes {f} h c (store a v) m = by_answer (memory_store.write m a v).answer
   where
-    by_answer : (x : Write) → Comes (settle_of c (store a v) (write_reply x)).outcome (f ++ reply_log (write_reply x))
-    by_answer Write.Done = steps (more_reads 2 h no_reads (omega arith))
-    by_answer (Write.Stopped s) = stop_comes (more_reads 1 h no_reads (omega arith)) s
+    by_answer : (x : Result (Unit {0}) Stop) → Comes (settle_of c (store a v) (write_reply x)).outcome (f ++ reply_log (write_reply x))
+    by_answer (Ok u) = steps (more_reads 2 h no_reads (omega arith))
+    by_answer (Err s) = stop_comes (more_reads 1 h no_reads (omega arith)) s
 access_comes h c (stop s) m = stop_comes (more_reads 1 h no_reads (omega arith)) s
 
 module _ (plan : Core → ℕ → Plan) where
@@ -89,80 +87,56 @@ module _ (plan : Core → ℕ → Plan) where
   unfolding cycle_of
   cycle_comes c m = by_answer (memory_store.read m c.ip).answer
     where
-      after : Read → Logged (Turn Memory)
+      after : Result ℕ Stop → Logged (Turn Memory)
       after = on_fetch (λ w. carry_out memory_store (plan (advanced c) w)) c (memory_store.read m c.ip).memory
 
-      by_answer : (r : Read) → Comes (after r).result.outcome (read_log Purpose.Fetch c.ip r ++ (after r).log)
-      by_answer (Read.Word w) = access_comes (one_read Purpose.Fetch c.ip w) (plan (advanced c) w).core (plan (advanced c) w).access _
-      by_answer (Read.Stopped s) = stop_comes (at_most 1 no_reads (omega arith)) s
+      by_answer : (r : Result ℕ Stop) → Comes (after r).result.outcome (read_log Purpose.Fetch c.ip r ++ (after r).log)
+      by_answer (Ok w) = access_comes (one_read Purpose.Fetch c.ip w) (plan (advanced c) w).core (plan (advanced c) w).access _
+      by_answer (Err s) = stop_comes (at_most 1 no_reads (omega arith)) s
 
--- What holds of the steps counted and the log, while a run goes on (now) and at its end: a turn is made only where the log isn't full.
-record Grows (given : Setting) (now end : ℕ → List ℕ → Type 0) : Type 0 where
-  start : now 0 []
-  ends : (n : ℕ) (l : List ℕ) → now n l → end n l
-  step : (n : ℕ) (l t : List ℕ) → now n l → is_full given.room (length l) ≡ false → AtMost 2 t → now (n + 1) (l ++ t)
-  fault : (n : ℕ) (l t : List ℕ) → now n l → is_full given.room (length l) ≡ false → AtMost 1 t → end n (l ++ t)
+-- What a run leaves has at most two reads a step, and one more if it faults.
+abbrev ReadsOf : Logged (Ran Memory) → Type 0
+ReadsOf r = AtMost (2 * r.result.steps + 1) r.log
 
--- of what a run leaves
-abbrev AtEnd : (ℕ → List ℕ → Type 0) → Logged (Ran Memory) → Type 0
-AtEnd end r = end r.result.steps r.log
+-- it ends before a turn, or is refused
+end_reads : (n : ℕ) {l : List ℕ} → AtMost (2 * n) l → AtMost (2 * n + 1) l
+end_reads n h = at_most _ h (omega arith)
 
-module _ (plan : Core → ℕ → Plan) {given : Setting} {now end : ℕ → List ℕ → Type 0} (grows : Grows given now end) where
-  -- after a turn that comes out so
-  next_grows : (more : Core → Memory → List ℕ → Logged (Ran Memory)) (n : ℕ) (l : List ℕ) → now n l → is_full given.room (length l) ≡ false
-      → ((d : Core) (m : Memory) (k : List ℕ) → now (n + 1) k → AtEnd end (more d m k))
-      → {o : Outcome} (d : Core) (m : Memory) {t : List ℕ} → Comes o t → AtEnd end (next_of more n l (logged (turn o d m) t))
-  next_grows more n l h free rest d m (steps {l = t} g) = rest d m (l ++ t) (grows.step n l t h free g)
-  next_grows more n l h free rest d m (faults {l = t} g) = grows.fault n l t h free g
+-- it goes on after a turn, or ends by it
+next_reads : (more : Core → Memory → List ℕ → Logged (Ran Memory)) (n : ℕ) (l : List ℕ) → AtMost (2 * n) l
+    → ((d : Core) (m : Memory) (k : List ℕ) → AtMost (2 * (n + 1)) k → ReadsOf (more d m k))
+    → {o : Outcome} (d : Core) (m : Memory) {t : List ℕ} → Comes o t → ReadsOf (next_of more n l (logged (turn o d m) t))
+next_reads more n l h rest d m (steps {l = t} g) = rest d m (l ++ t) (more_reads _ h g (omega arith))
+next_reads more n l h rest d m (faults {l = t} g) = more_reads _ h g (omega arith)
 
-  turns_grow : (k n : ℕ) (c : Core) (m : Memory) (l : List ℕ) → now n l → AtEnd end (run_from memory_store plan given k n c m l)
-  unfolding run_from
-  turns_grow zero n c m l h = if_elim (AtEnd end) (is_halted c) (λ _. grows.ends n l h) (λ _. grows.ends n l h)
-  turns_grow (suc k) n c m l h =
-      if_elim (AtEnd end) (is_halted c)
-      (λ _. grows.ends n l h)
-      (λ _. if_elim (AtEnd end) (is_full given.room (length l))
-      (λ _. grows.ends n l h)
-      (λ free. next_grows (run_from memory_store plan given k (n + 1)) n l h free (turns_grow k (n + 1)) _ _ (cycle_comes plan c m)))
+turns_reads : (plan : Core → ℕ → Plan) (over : List ℕ → Bool) (why : LogEnd) (k n : ℕ) (c : Core) (m : Memory) (l : List ℕ) → AtMost (2 * n) l
+    → ReadsOf (run_until memory_store plan over why k n c m l)
+unfolding run_until
+turns_reads plan over why zero n c m l h = if_elim ReadsOf (is_halted c) (λ _. end_reads n h) (λ _. end_reads n h)
+turns_reads plan over why (suc k) n c m l h =
+    if_elim ReadsOf (is_halted c)
+    (λ _. end_reads n h)
+    (λ _. if_elim ReadsOf (over l)
+    (λ _. end_reads n h)
+    (λ _. next_reads (run_until memory_store plan over why k (n + 1)) n l h (turns_reads plan over why k (n + 1)) _ _ (cycle_comes plan c m)))
 
-  run_grows : (c : Core) (m : Memory) (limit : ℕ) → AtEnd end (run_in plan given c m limit)
-  unfolding run_in
-  run_grows c m limit =
-      if_elim (AtEnd end) (eqb (refusal_of m) 0) (λ _. turns_grow limit 0 c (unmarked m) [] grows.start) (λ _. grows.ends 0 [] grows.start)
-
--- two reads a step, and one more if it faults
-reads_grow : (given : Setting) → Grows given (λ n l. AtMost (2 * n) l) (λ n l. AtMost (2 * n + 1) l)
-reads_grow given =
-    record {
-      start = no_reads;
-      ends = λ n l h. at_most _ h (omega arith);
-      step = λ n l t h _ g. more_reads _ h g (omega arith);
-      fault = λ n l t h _ g. more_reads _ h g (omega arith);
-    }
-
--- a step's words fit where four are free
-two_fit : (size : ℕ) (l t : List ℕ) → length l ≤ size → is_full (words size) (length l) ≡ false → AtMost 2 t → length (l ++ t) ≤ size
-two_fit size l t h free g =
-    let four : 4 ≤ size - length l = ltb-false _ _ free in
-    let long = two_words g.reads in
-    rw length-append (omega arith)
-
-buffer_fits : (size : ℕ) → Grows (setting (words size)) (λ n l. length l ≤ size) (λ n l. length l ≤ size)
-buffer_fits size =
-    record {
-      start = omega arith;
-      ends = λ n l h. h;
-      step = λ n. two_fit size;
-      fault = λ n l t h free g. two_fit size l t h free (at_most 2 g (omega arith));
-    }
+-- a run is its turns, or is refused with nothing logged
+run_in_by : (P : Logged (Ran Memory) → Type 0) (plan : Core → ℕ → Plan) (given : Setting) (c : Core) (m : Memory) (limit : ℕ)
+    → P (run_from memory_store plan given limit 0 c (unmarked m) []) → P (logged (ran (refused (refusal_of m)) 0 c m) []) → P (run_in plan given c m limit)
+unfolding run_in
+run_in_by P plan given c m limit turns refusal = if_elim P (eqb (refusal_of m) 0) (λ _. turns) (λ _. refusal)
 
 pub log_size : LogSize
 log_size =
     record {
       two_words = two_words;
       two_reads = λ c m. few (cycle_comes plan_of c m);
-      run_reads = λ given. run_grows plan_of (reads_grow given);
-      in_buffer = λ c m limit buffer. run_grows plan_of (buffer_fits (length buffer)) c m limit;
+      run_reads = λ given c m limit.
+          run_in_by ReadsOf plan_of given c m limit (turns_reads plan_of (full_in given) Full limit 0 c (unmarked m) [] no_reads) (end_reads 0 no_reads);
+      in_buffer = λ c m limit buffer.
+          run_in_by (λ r. length r.log ≤ length buffer) plan_of (logging_in buffer) c m limit
+          (run_fits memory_store plan_of (length buffer) Full limit 0 c (unmarked m) [] (omega arith))
+          (omega arith);
     }
 
 -- A logged run and the plain one: by induction on what is left of the limit.
@@ -181,15 +155,15 @@ record Cut (plainly : ℕ → Logged (Ran Memory)) (n : ℕ) (r : Logged (Ran Me
 abbrev CutIfFull : (ℕ → Logged (Ran Memory)) → ℕ → Logged (Ran Memory) → Type 0
 CutIfFull plainly n r = r.result.end ≡ ended 30 → Cut plainly n r
 
-module _ (plan : Core → ℕ → Plan) (given : Setting) where
+module _ (plan : Core → ℕ → Plan) (over : List ℕ → Bool) where
   room_turns : (k n : ℕ) (c : Core) (m : Memory) (l : List ℕ)
-      → SameIfRoom (run_from memory_store plan given k n c m l) (run_from memory_store plan plain k n c m l)
-  unfolding run_from
+      → SameIfRoom (run_until memory_store plan over Full k n c m l) (run_from memory_store plan plain k n c m l)
+  unfolding run_until
   room_turns zero n c m l = λ _. refl
   room_turns (suc k) n c m l =
       if_both SameIfRoom (is_halted c) (is_halted c) refl
       (λ _ _. refl)
-      (λ _. if_elim (λ (r : Logged (Ran Memory)). SameIfRoom r (next_of (run_from memory_store plan plain k (n + 1)) n l t)) (is_full given.room (length l))
+      (λ _. if_elim (λ (r : Logged (Ran Memory)). SameIfRoom r (next_of (run_from memory_store plan plain k (n + 1)) n l t)) (over l)
       (λ _ room. absurd (room refl))
       (λ _. if_both SameIfRoom (is_stepped t.result.outcome) (is_stepped t.result.outcome) refl
       (λ _. room_turns k (n + 1) t.result.core t.result.memory (l ++ t.log))
@@ -199,14 +173,14 @@ module _ (plan : Core → ℕ → Plan) (given : Setting) where
       t = cycle_of memory_store plan c m
 
   full_turns : (k n : ℕ) (c : Core) (m : Memory) (l : List ℕ)
-      → CutIfFull (λ j. run_from memory_store plan plain j n c m l) n (run_from memory_store plan given k n c m l)
-  unfolding run_from
+      → CutIfFull (λ j. run_from memory_store plan plain j n c m l) n (run_until memory_store plan over Full k n c m l)
+  unfolding run_until
   full_turns zero n c m l = if_elim (CutIfFull _ n) (is_halted c) (λ _ e. clash (cc)) (λ _ e. clash (cc))
   full_turns (suc k) n c m l =
       if_elim (CutIfFull plainly n) (is_halted c)
       (λ _ e. clash (cc))
-      (λ q. if_elim (CutIfFull plainly n) (is_full given.room (length l))
-      (λ _ e. record { left = 0; counted = omega arith; same = ap (λ (r : Logged (Ran Memory)). r.result) (run_limit memory_store plan plain c m n l q) })
+      (λ q. if_elim (CutIfFull plainly n) (over l)
+      (λ _ e. record { left = 0; counted = omega arith; same = ap (λ (r : Logged (Ran Memory)). r.result) (run_limit memory_store plan (full_in plain) Full c m n l q) })
       (λ _. if_elim (CutIfFull plainly n) (is_stepped t.result.outcome)
       (λ s e. turn_more q s (full_turns k (n + 1) t.result.core t.result.memory (l ++ t.log) e))
       (λ _ e. absurd (not_full (cycle_comes plan c m) e))))
@@ -226,14 +200,14 @@ pub logged_plain : (plan : Core → ℕ → Plan) (given : Setting) (c : Core) (
     → run_in plan given c m limit ≡ run_in plan plain c m limit
 unfolding run_in
 logged_plain plan given c m limit =
-    if_both SameIfRoom (eqb (refusal_of m) 0) (eqb (refusal_of m) 0) refl (λ _. room_turns plan given limit 0 c (unmarked m) []) (λ _ _. refl)
+    if_both SameIfRoom (eqb (refusal_of m) 0) (eqb (refusal_of m) 0) refl (λ _. room_turns plan (full_in given) limit 0 c (unmarked m) []) (λ _ _. refl)
 
 full_plain : (plan : Core → ℕ → Plan) (given : Setting) (c : Core) (m : Memory) (limit : ℕ) → (run_in plan given c m limit).result.end ≡ ended 30
     → run_of plan c m (run_in plan given c m limit).result.steps ≡ cut_at (run_in plan given c m limit)
 unfolding run_in run_of
 full_plain plan given c m limit =
     if_elim (λ (r : Logged (Ran Memory)). r.result.end ≡ ended 30 → run_of plan c m r.result.steps ≡ cut_at r) (eqb (refusal_of m) 0)
-    (λ ok e. rw (ok, run_of) (whole (full_turns plan given limit 0 c (unmarked m) [] e)))
+    (λ ok e. rw (ok, run_of) (whole (full_turns plan (full_in given) limit 0 c (unmarked m) [] e)))
     (λ _ e. clash (cc))
   where
     whole : {plainly : ℕ → Logged (Ran Memory)} {r : Logged (Ran Memory)} → Cut plainly 0 r → (plainly r.result.steps).result ≡ cut_at r

@@ -3,9 +3,9 @@ use mathlib.Core.Path.{refl}
 use Rattle.instructions.specs.Decoding.{decode_of}
 use Rattle.execute.specs.Execute.{execute_of}
 use Rattle.emulator.specs.Memory.{refused_length, read_mark, write_mark, read_of, write_of}
-use Rattle.emulator.specs.Machine.{plan_of, cycle_of, refusal_of, step_of, run_from, run_in, run_of}
+use Rattle.emulator.specs.Machine.{plan_of, cycle_of, refusal_of, step_of, run_until, run_in, run_of}
 use Rattle.run_laws.specs.Rows.{Rows}
 
 pub rows : Rows
-unfolding decode_of execute_of refused_length read_mark write_mark read_of write_of plan_of cycle_of refusal_of step_of run_from run_in run_of
+unfolding decode_of execute_of refused_length read_mark write_mark read_of write_of plan_of cycle_of refusal_of step_of run_until run_in run_of
 rows = refl

@@ -1,27 +1,25 @@
 -- Two runs side by side, each on what stands for its memory: they differ in that alone, as long as a relation of the two is kept by each access.
 -- Nothing here looks at an instruction.
-use Prim.Native.Nat.{ℕ, zero, suc, ◌+◌}
-use mathlib.Core.List.{List, [], ◌++◌, append-nil, append_assoc}
-use mathlib.Core.Path.{◌≡◌, refl, sym, ap, subst}
-use lib.ListN.{length}
+use Rattle.std.specs.Prelude.{◌≡◌, ℕ, zero, suc, ◌+◌, Bool, List, [], ◌++◌, Result, Ok, Err}
+use mathlib.Core.List.{append-nil, append_assoc}
+use mathlib.Core.Path.{refl, sym, ap, subst}
 use Rattle.instructions.proofs.Cases.{if_both}
 use Rattle.instructions.specs.declared.reg.GeneralPurposeRegister.{GeneralPurposeRegister}
 use Rattle.emulator.specs.Core.{is_halted}
-use Rattle.emulator.specs.Log.{read_log, reply_log, Logged, logged, is_full}
+use Rattle.emulator.specs.Log.{read_log, Reply, reply_log, Logged, logged}
 use Rattle.emulator.specs.Memory.{Accessed, accessed}
 use Rattle.emulator.specs.Outcome.{Outcome}
-use Rattle.emulator.specs.Machine.{Access, none, load, store, stop, Plan, loaded, settle_of, Store, read_reply, write_reply, make_of, Turn, turn, settled_turn, carry_out, after_fetch, advanced, cycle_of, Ran, ran, is_stepped, next_of, Setting, run_from}
-use Rattle.emulator.specs.declared.effects.Reply.{Reply}
+use Rattle.emulator.specs.Machine.{Access, none, load, store, stop, Plan, loaded, settle_of, Store, read_reply, write_reply, make_of, Turn, turn, settled_turn, carry_out, after_fetch, advanced, cycle_of, Ran, ran, is_stepped, next_of, run_until}
 use Rattle.emulator.specs.declared.core_record.Core.{Core}
 use Rattle.emulator.specs.declared.log.Purpose.{Purpose}
-use Rattle.emulator.specs.declared.memory.Read.{Read}
-use Rattle.emulator.specs.declared.memory.Write.{Write}
+use Rattle.emulator.specs.declared.refusal.LogEnd.{LogEnd}
+use Rattle.emulator.specs.declared.stop.Stop.{Stop}
 use Rattle.emulator.proofs.Keeps.{Leads, make_leads, on_fetch_leads, next_leads, run_leads, read_replied, write_replied}
 
 -- What is known of every word that is read or written: W.
-abbrev pub ReadFits : (ℕ → Type 0) → Read → Type 0
-ReadFits W (Read.Word w) = W w
-ReadFits W (Read.Stopped s) = Unit {0}
+abbrev pub ReadFits : (ℕ → Type 0) → Result ℕ Stop → Type 0
+ReadFits W (Ok w) = W w
+ReadFits W (Err s) = Unit {0}
 
 abbrev pub AccessFits : (ℕ → Type 0) → Access → Type 0
 AccessFits W none = Unit {0}
@@ -30,9 +28,9 @@ AccessFits W (store a v) = W v
 AccessFits W (stop s) = Unit {0}
 
 abbrev ReplyFits : (ℕ → Type 0) → Reply → Type 0
-ReplyFits W Reply.Done = Unit {0}
-ReplyFits W (Reply.Word a w) = W w
-ReplyFits W (Reply.Stopped s) = Unit {0}
+ReplyFits W Reply.done = Unit {0}
+ReplyFits W (Reply.word a w) = W w
+ReplyFits W (Reply.stopped s) = Unit {0}
 
 -- two accesses that answer the same
 pub record Same {S S' A : Type 0} (x : Accessed S A) (y : Accessed S' A) (alike : S → S' → Type 0) : Type 0 where
@@ -87,24 +85,24 @@ module _ {S S' : Type 0} (first : Store S) (second : Store S') (plan : Core → 
   reply_fits l none m m' h = tt
   reply_fits l (load a r up) m m' h = by_answer (first.read m a).answer (sim.read_fits l m m' a h)
     where
-      by_answer : (x : Read) → ReadFits W x → ReplyFits W (read_reply a x)
-      by_answer (Read.Word w) fit = fit
-      by_answer (Read.Stopped s) fit = tt
+      by_answer : (x : Result ℕ Stop) → ReadFits W x → ReplyFits W (read_reply a x)
+      by_answer (Ok w) fit = fit
+      by_answer (Err s) fit = tt
   reply_fits l (store a v) m m' h = by_answer (first.write m a v).answer
     where
-      by_answer : (x : Write) → ReplyFits W (write_reply x)
-      by_answer Write.Done = tt
-      by_answer (Write.Stopped s) = tt
+      by_answer : (x : Result (Unit {0}) Stop) → ReplyFits W (write_reply x)
+      by_answer (Ok u) = tt
+      by_answer (Err s) = tt
   reply_fits l (stop s) m m' h = tt
 
   settle_fits : (c : Core) (x : Access) (r : Reply) → Fits c → ReplyFits W r → Fits (settle_of c x r).core
   settle_fits c none r f w = f
-  settle_fits c (load a g up) Reply.Done f w = f
-  settle_fits c (load a g up) (Reply.Word b v) f w = sim.load_fits c g up v f w
-  settle_fits c (load a g up) (Reply.Stopped s) f w = f
-  settle_fits c (store a v) Reply.Done f w = f
-  settle_fits c (store a v) (Reply.Word b k) f w = f
-  settle_fits c (store a v) (Reply.Stopped s) f w = f
+  settle_fits c (load a g up) Reply.done f w = f
+  settle_fits c (load a g up) (Reply.word b v) f w = sim.load_fits c g up v f w
+  settle_fits c (load a g up) (Reply.stopped s) f w = f
+  settle_fits c (store a v) Reply.done f w = f
+  settle_fits c (store a v) (Reply.word b k) f w = f
+  settle_fits c (store a v) (Reply.stopped s) f w = f
   settle_fits c (stop s) r f w = f
 
   -- a plan carried out
@@ -127,26 +125,26 @@ module _ {S S' : Type 0} (first : Store S) (second : Store S') (plan : Core → 
         fits = tw.fits;
       }
 
-  twin_fetched : (l : List ℕ) (c : Core) (m : S) (m' : S') → Fits c → (r : Read) → ReadFits W r → R (l ++ read_log Purpose.Fetch c.ip r) m m'
+  twin_fetched : (l : List ℕ) (c : Core) (m : S) (m' : S') → Fits c → (r : Result ℕ Stop) → ReadFits W r → R (l ++ read_log Purpose.Fetch c.ip r) m m'
       → Seen (l ++ (after_fetch (λ w. carry_out first (plan (advanced c) w)) c (accessed r m)).log) (after_fetch (λ w. carry_out first (plan (advanced c) w)) c (accessed r m)).result.memory
       → Twins l (after_fetch (λ w. carry_out first (plan (advanced c) w)) c (accessed r m)) (after_fetch (λ w. carry_out second (plan (advanced c) w)) c (accessed r m'))
-  twin_fetched l c m m' fit (Read.Word w) word h seen =
+  twin_fetched l c m m' fit (Ok w) word h seen =
       after_fetch_lem l _ (carry_out first (plan (advanced c) w) m) (carry_out second (plan (advanced c) w) m')
       (twin_carry _ (plan (advanced c) w) m m' (sim.plan_fits c w fit word) (sim.access_fits c w fit word) h (rw (← append_assoc) at seen))
-  twin_fetched l c m m' fit (Read.Stopped s) word h seen = record { same = refl; alike = h; fits = fit }
+  twin_fetched l c m m' fit (Err s) word h seen = record { same = refl; alike = h; fits = fit }
 
   twin_cycle : (l : List ℕ) (c : Core) (m : S) (m' : S') → Fits c → R l m m'
       → Seen (l ++ (cycle_of first plan c m).log) (cycle_of first plan c m).result.memory
       → Twins l (cycle_of first plan c m) (cycle_of second plan c m')
   unfolding cycle_of
   twin_cycle l c m m' fit h seen =
-      subst (λ (r : Read). Twins l (after_fetch more c x) (after_fetch more' c (accessed r y.memory))) (sym s.answer)
+      subst (λ (r : Result ℕ Stop). Twins l (after_fetch more c x) (after_fetch more' c (accessed r y.memory))) (sym s.answer)
       (twin_fetched l c x.memory y.memory fit x.answer (sim.read_fits l m m' c.ip h) s.kept seen)
     where
-      x : Accessed S Read
+      x : Accessed S (Result ℕ Stop)
       x = first.read m c.ip
 
-      y : Accessed S' Read
+      y : Accessed S' (Result ℕ Stop)
       y = second.read m' c.ip
 
       more : ℕ → S → Logged (Turn S)
@@ -174,11 +172,11 @@ module _ {S S' : Type 0} (first : Store S) (second : Store S') (plan : Core → 
       (λ _ low. record { same = refl; alike = tw.alike })
       seen)
 
-  pub twin_run : (given : Setting) (k n : ℕ) (c : Core) (m : S) (m' : S') (l : List ℕ) → Fits c → R l m m'
-      → Seen (run_from first plan given k n c m l).log (run_from first plan given k n c m l).result.memory
-      → RanTwins (run_from first plan given k n c m l) (run_from second plan given k n c m' l)
-  unfolding run_from
-  twin_run given zero n c m m' l fit h seen =
+  pub twin_run : (over : List ℕ → Bool) (why : LogEnd) (k n : ℕ) (c : Core) (m : S) (m' : S') (l : List ℕ) → Fits c → R l m m'
+      → Seen (run_until first plan over why k n c m l).log (run_until first plan over why k n c m l).result.memory
+      → RanTwins (run_until first plan over why k n c m l) (run_until second plan over why k n c m' l)
+  unfolding run_until
+  twin_run over why zero n c m m' l fit h seen =
       if_both Both (is_halted c) (is_halted c) refl (λ _ _. here) (λ _ _. here) seen
     where
       Both : Logged (Ran S) → Logged (Ran S') → Type 0
@@ -186,15 +184,15 @@ module _ {S S' : Type 0} (first : Store S) (second : Store S') (plan : Core → 
 
       here : {o : Outcome} → RanTwins (logged (ran o n c m) l) (logged (ran o n c m') l)
       here = record { same = refl; alike = h }
-  twin_run given (suc k) n c m m' l fit h seen =
+  twin_run over why (suc k) n c m m' l fit h seen =
       if_both Both (is_halted c) (is_halted c) refl
       (λ _ _. here)
-      (λ _. if_both Both (is_full given.room (length l)) (is_full given.room (length l)) refl
+      (λ _. if_both Both (over l) (over l) refl
       (λ _ _. here)
-      (λ _ low. twin_next (run_from first plan given k (n + 1)) (run_from second plan given k (n + 1)) n l
-      (λ c₁ m₁ m₂ k₁. twin_run given k (n + 1) c₁ m₁ m₂ k₁) (cycle_of first plan c m) (cycle_of second plan c m')
+      (λ _ low. twin_next (run_until first plan over why k (n + 1)) (run_until second plan over why k (n + 1)) n l
+      (λ c₁ m₁ m₂ k₁. twin_run over why k (n + 1) c₁ m₁ m₂ k₁) (cycle_of first plan c m) (cycle_of second plan c m')
       (twin_cycle l c m m' fit h
-      (next_leads first sim.seen (run_from first plan given k (n + 1)) n l (run_leads first sim.seen plan given k (n + 1)) (cycle_of first plan c m) low))
+      (next_leads first sim.seen (run_until first plan over why k (n + 1)) n l (run_leads first sim.seen plan over why k (n + 1)) (cycle_of first plan c m) low))
       low))
       seen
     where
