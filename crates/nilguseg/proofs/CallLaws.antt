@@ -10,9 +10,7 @@ use Rattle.sheet.specs.Load.{Left, left}
 use Rattle.sheet.specs.declared.load.Loaded.{Loaded}
 use Rattle.sheet.specs.declared.write.Written.{Written}
 use Rattle.sheet.specs.Write.{wrote, write_sheet_of}
-use Rattle.order.specs.declared.Order.{Order}
-use Rattle.order.specs.declared.Part.{Part}
-use Rattle.nilguseg.specs.Host.{core_from, words_of, outcome_number, loaded_number, written_number, order_number, call, step_call, run_call, load_call, write_call, part_call}
+use Rattle.nilguseg.specs.Host.{core_from, words_of, outcome_number, loaded_number, written_number, call, step_call, run_call, load_call, write_call}
 
 module _ (ws mem₀ ms₀ : List ℕ) {k c : Core} {words mem ms : List ℕ} {o : machine.Outcome} (taken : k ≡ core_from ws) (put : words ≡ words_of c) where
   pub stepped : {r : ℕ} → turn o c (lent mem ms) ≡ step_of plan_of k (lent mem₀ ms₀) → r ≡ outcome_number o →
@@ -31,9 +29,3 @@ pub written : (ws mem₀ buffer₀ : List ℕ) {k : Core} {buffer : List ℕ} {x
     k ≡ core_from ws → wrote x buffer ≡ write_sheet_of k mem₀ buffer₀ → r ≡ written_number x →
     call r (buffer ∷ []) ≡ write_call (write_sheet_of (core_from ws) mem₀ buffer₀)
 written ws mem₀ buffer₀ taken h n = rw (← taken, ← h, n)
-
-pub compared : (x : Order) {o : Order} {r : ℕ} → o ≡ x → r ≡ order_number o → r ≡ order_number x
-compared x h n = rw (← h) n
-
-pub parted : (x : Part) {p : Part} {r : ℕ} → p ≡ x → r ≡ order_number p.order → call r ((p.from ∷ []) ∷ []) ≡ part_call x
-parted x h n = rw (← h, n)

@@ -10,7 +10,7 @@ use Rattle.sheet.specs.declared.load.Loaded.{Loaded}
 use Rattle.sheet.specs.declared.write.Written.{Written}
 use Rattle.sheet.specs.Load.{Left}
 use Rattle.sheet.specs.Write.{Wrote}
-use Rattle.order.specs.declared.Order.{Order}
+use Rattle.std.specs.declared.cmp.Ordering.{Ordering}
 use Rattle.order.specs.declared.Part.{Part}
 
 -- the core record as twelve words: r0 to r7, ip, rp, sp, ef, which the header's struct `nilguseg_core` names
@@ -44,10 +44,10 @@ written_number (Written.Records n) = n
 written_number (Written.Refused n) = n * 2 ^ 32
 
 -- a comparison: which of two lists comes first
-abbrev pub order_number : Order → ℕ
-order_number Order.Equal = 0
-order_number Order.First = 1
-order_number Order.Second = 2
+abbrev pub order_number : Ordering → ℕ
+order_number Ordering.Equal = 0
+order_number Ordering.Less = 1
+order_number Ordering.Greater = 2
 
 -- what a call leaves: its answer, and what each list that it may change holds, in the order of the parameters
 pub record Call : Type 0 where

@@ -79,11 +79,10 @@ pub fn nilguseg_compare(first: &[u16], second: &[u16]) -> u32
 }
 
 // The part of the earlier list from the first place where they differ on.
-pub fn nilguseg_earlier<'a>(first: &'a [u16], second: &'a [u16], from: &mut usize) -> u32
+pub fn nilguseg_earlier(first: &[u16], second: &[u16], from: &mut usize) -> u32
     ensures { call result ((from.new ∷ []) ∷ []) ≡ part_call (part_of first.now second.now) }
 {
     let part = earlier_part(first, second);
-    let order = part.order;
     *from = part.from;
-    order_number(order)
+    order_number(part.order)
 }

@@ -4,8 +4,8 @@ ghost use Rattle.emulator.specs.Outcome.{answer_of, end_of};
 ghost use Rattle.nilguseg.specs.Host.{answered, outcome_number, loaded_number, written_number, order_number};
 
 use emulator::{Answer, End};
-use order::Order;
 use sheet::{Loaded, Written};
+use std::cmp::Ordering;
 
 fn number(how: u8, number: u8, value: u16) -> u32
     ensures { result ≡ answered how number value }
@@ -58,12 +58,12 @@ pub fn written_number(answer: Written) -> u64
     }
 }
 
-pub fn order_number(order: Order) -> u32
+pub fn order_number(order: Ordering) -> u32
     ensures { result ≡ order_number order }
 {
     match order {
-        Order::Equal => 0,
-        Order::First => 1,
-        Order::Second => 2,
+        Ordering::Equal => 0,
+        Ordering::Less => 1,
+        Ordering::Greater => 2,
     }
 }

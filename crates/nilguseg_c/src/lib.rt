@@ -73,7 +73,7 @@ pub extern "C" fn nilguseg_compare(first: &[u16], second: &[u16]) -> u32
 
 // The part of the earlier list from the first place where they differ on.
 #[unsafe(no_mangle)]
-pub extern "C" fn nilguseg_earlier<'a>(first: &'a [u16], second: &'a [u16], from: &mut usize) -> u32
+pub extern "C" fn nilguseg_earlier(first: &[u16], second: &[u16], from: &mut usize) -> u32
     ensures { call result ((from.new ∷ []) ∷ []) ≡ part_call (part_of first.now second.now) }
 {
     nilguseg::nilguseg_earlier(first, second, from)

@@ -1,8 +1,9 @@
 -- Which of two word lists comes first (document 02, CR 1): they are compared at the first place where they differ, the shorter taken as
 -- followed by zeros.
-use Rattle.std.specs.Prelude.{ℕ, zero, suc, ◌+◌, ◌*◌, min, max, List, length, get_or, drop, ltb, eqb, if◌then◌else◌}
+use Rattle.std.specs.Prelude.{ℕ, zero, suc, ◌+◌, ◌*◌, min, max, List, length, get_or, drop, eqb, if◌then◌else◌}
+use Rattle.std.specs.Ordering.{nat_cmp, min_by_ordering}
 use Rattle.std.specs.Borrow.{Bor}
-use Rattle.order.specs.declared.Order.{Order}
+use Rattle.std.specs.declared.cmp.Ordering.{Ordering}
 use Rattle.order.specs.declared.Part.{Part}
 
 -- the word at a place: 0 past the end
@@ -18,26 +19,17 @@ differ_from (suc n) k first second = if eqb (word_in first k) (word_in second k)
 unfoldable pub place_of : List ℕ → List ℕ → ℕ
 place_of first second = differ_from (max (length first) (length second)) 0 first second
 
--- the smaller of two words comes first
-unfoldable pub by_words : ℕ → ℕ → Order
-by_words v w = if ltb v w then Order.First else if ltb w v then Order.Second else Order.Equal
+-- the order of two lists, that of their words at that place: `Less` where the first comes first, `Greater` where the second does
+abbrev pub order_of : List ℕ → List ℕ → Ordering
+order_of first second = nat_cmp (word_in first (place_of first second)) (word_in second (place_of first second))
 
--- the order of two lists: that of their words at that place
-unfoldable pub order_of : List ℕ → List ℕ → Order
-order_of first second = by_words (word_in first (place_of first second)) (word_in second (place_of first second))
-
--- the earlier of two; the first where they are equal
-abbrev pub earlier_of : {A : Type 0} → Order → A → A → A
-earlier_of Order.First first second = first
-earlier_of Order.Second first second = second
-earlier_of Order.Equal first second = first
-
--- the part of the earlier list from that place on, as the order and the part's first place; of a list that is over there, its empty end
-unfoldable pub part_of : List ℕ → List ℕ → Part
+-- the part of the earlier list from that place on, as the order and the part's first place: of a list that is over there, its empty end, and of
+-- two that are equal, that of the first
+abbrev pub part_of : List ℕ → List ℕ → Part
 part_of first second =
     record {
       order = order_of first second;
-      from = min (place_of first second) (length (earlier_of (order_of first second) first second));
+      from = min (place_of first second) (length (min_by_ordering (order_of first second) first second));
     }
 
 -- a lent list: where it starts, a block of memory and a byte in it, and its words
@@ -46,13 +38,14 @@ pub record Slice : Type 0 where
   pub byte : ℕ
   pub words : List ℕ
 
-unfoldable pub slice_of : Bor (List ℕ) → Slice
+abbrev pub slice_of : Bor (List ℕ) → Slice
 slice_of s = record { block = s.ref_ptr.0; byte = s.ref_ptr.1; words = s.now }
 
 -- the same list from place k on; a word has two bytes
-unfoldable pub from_place : Slice → ℕ → Slice
+abbrev pub from_place : Slice → ℕ → Slice
 from_place s k = record { block = s.block; byte = s.byte + k * 2; words = drop k s.words }
 
 -- the part as it is handed back
-unfoldable pub earlier_part : Slice → Slice → Slice
-earlier_part first second = let p = part_of first.words second.words in from_place (earlier_of p.order first second) p.from
+abbrev pub earlier_part : Slice → Slice → Slice
+earlier_part first second =
+    let p = part_of first.words second.words in from_place (min_by_ordering p.order first second) p.from

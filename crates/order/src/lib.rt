@@ -2,21 +2,16 @@
 #![tactic(auto)]
 
 ghost use Rattle.std.specs.Prelude.{◌≡◌, min, max, length};
-ghost use Rattle.order.specs.Order.{word_in, place_of, by_words, order_of, earlier_of, part_of, slice_of, from_place, earlier_part};
+ghost use Rattle.std.specs.Ordering.{nat_cmp, min_by_ordering};
+ghost use Rattle.order.specs.Order.{word_in, place_of, order_of, part_of, slice_of, from_place, earlier_part};
 
-// Which comes first; equal lists differ in trailing zeros only.
-#[derive(Clone, Copy)]
-pub enum Order {
-    First,
-    Second,
-    Equal,
-}
+use std::cmp::Ordering;
 
 // What `earlier` hands back, in numbers: which list comes first, and the place in it from which on it is handed back. Where they are equal, that
 // is the end of the first.
-#[derive(Clone, Copy)]
+#[derive(Clone, Copy, PartialEq, Eq, Debug)]
 pub struct Part {
-    pub order: Order,
+    pub order: Ordering,
     pub from: usize,
 }
 
@@ -54,18 +49,10 @@ fn place(first: &[u16], second: &[u16]) -> usize
 }
 
 // The order of the words at a place: the smaller comes first.
-fn order_at(first: &[u16], second: &[u16], at: usize) -> Order
-    ensures { result ≡ by_words (word_in first.now at) (word_in second.now at) }
+fn order_at(first: &[u16], second: &[u16], at: usize) -> Ordering
+    ensures { result ≡ nat_cmp (word_in first.now at) (word_in second.now at) }
 {
-    let v = word_in(first, at);
-    let w = word_in(second, at);
-    if v < w {
-        return Order::First;
-    }
-    if w < v {
-        return Order::Second;
-    }
-    Order::Equal
+    word_in(first, at).cmp(&word_in(second, at))
 }
 
 // The place, or the list's end if it is over there.
@@ -84,18 +71,17 @@ fn tail(words: &[u16], at: usize) -> &[u16]
 }
 
 // The earlier of the two; the first where they are equal.
-fn earlier_list<'a>(order: Order, first: &'a [u16], second: &'a [u16]) -> &'a [u16]
-    ensures { slice_of result ≡ earlier_of order (slice_of first.entry) (slice_of second.entry) }
+fn earlier_list<'a>(order: Ordering, first: &'a [u16], second: &'a [u16]) -> &'a [u16]
+    ensures { slice_of result ≡ min_by_ordering order (slice_of first.entry) (slice_of second.entry) }
 {
     match order {
-        Order::First => first,
-        Order::Second => second,
-        Order::Equal => first,
+        Ordering::Less | Ordering::Equal => first,
+        Ordering::Greater => second,
     }
 }
 
-// Which of the two comes first.
-pub fn compare(first: &[u16], second: &[u16]) -> Order
+// Which of the two comes first: `Less` the first, `Greater` the second; equal lists differ in trailing zeros only.
+pub fn compare(first: &[u16], second: &[u16]) -> Ordering
     ensures { result ≡ order_of first.now second.now }
 {
     order_at(first, second, place(first, second))
@@ -111,7 +97,7 @@ pub fn earlier<'a>(first: &'a [u16], second: &'a [u16]) -> &'a [u16]
 }
 
 // The same part in numbers, for a host.
-pub fn earlier_part<'a>(first: &'a [u16], second: &'a [u16]) -> Part
+pub fn earlier_part(first: &[u16], second: &[u16]) -> Part
     ensures { result ≡ part_of first.now second.now }
 {
     let at = place(first, second);

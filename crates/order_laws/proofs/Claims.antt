@@ -1,51 +1,33 @@
 -- The claims of the order of word lists.
-use Prim.Native.Nat.{ℕ, zero, suc, ◌-◌, ◌<◌, ◌≤◌, min}
-use mathlib.Core.Bool.{true, false}
-use mathlib.Core.List.{List, [], ◌∷◌, ◌++◌, append-nil}
-use mathlib.Core.Logic.{⊎_elim, inl, inr}
-use mathlib.Core.Path.{◌≡◌, refl, sym, ap, subst, ◌∙◌}
-use native.Mathlib.Omega.{arith}
-use native.Mathlib.Nat.{le_refl, sub_self, le_of_lt}
-use lib.Dec.{leb, ltb}
-use lib.ListN.{length, drop, replicate, length-append, length-replicate, length-drop}
-use lib.Seq.{ext_get_or, drop-cons}
-use borrow.Author.Tests.{leb-true, leb-false, ltb-true, ltb-false}
+use Rattle.std.proofs.Common.{◌≡◌, ℕ, zero, suc, ◌-◌, ◌<◌, ◌≤◌, min, true, false, ltb, List, [], ◌∷◌, ◌++◌, length, drop, replicate, refl, sym, ap, ◌∙◌, subst, ⊎_elim, inl, inr, arith, length-append, length-drop, drop-cons}
+use Rattle.std.proofs.lemmas.Bool.{cases_Bool, cases_lt, ltb-false}
+use Rattle.std.proofs.Math.Nat.{le_refl, sub_self, le_of_lt}
+use Rattle.std.proofs.lemmas.Cmp.{ranked, by_ranked, alike_right, tied_itself}
+use Rattle.std.proofs.lemmas.List.{ext_get_or, append-nil, get_or_past, get_or-replicate, length-replicate}
+use Rattle.std.specs.Cmp.{IsTotalOrder}
+use Rattle.std.specs.Ordering.{ordering_reverse}
+use Rattle.std.specs.declared.cmp.Ordering.{Ordering}
 use Rattle.emulator.specs.Memory.{refused_length}
-use Rattle.instructions.proofs.Cases.{by_test}
-use Rattle.emulator.proofs.Fill.{get_d_zeros}
-use Rattle.order.specs.declared.Order.{Order}
-use Rattle.order.specs.Order.{word_in, place_of, order_of, earlier_of, part_of, Slice, from_place, earlier_part}
+use Rattle.order.specs.Order.{word_in, place_of, order_of, Slice, earlier_part}
 use Rattle.sheet.specs.declared.load.Loaded.{Loaded}
 use Rattle.sheet.specs.Load.{load_words_of}
-use Rattle.order_laws.specs.Claims.{Before, Equal, exchanged, OneOf, Total, Transitive, TrailingZeros, Equality, LoadAlike, Smaller, FirstDifference}
-use Rattle.order_laws.proofs.Compared.{by_words_lem, Same, same_before, end_place, same_all, Compared, compared, decided, turned, replaced, joined, all_same}
+use Rattle.order_laws.specs.Claims.{Before, Equal, OneOf, Total, Transitive, TrailingZeros, Equality, LoadAlike, Smaller, FirstDifference}
+use Rattle.order_laws.proofs.Compared.{Same, same_before, end_place, same_all, Compared, compared, decided, turned, replaced, joined, all_same}
 
 -- total
-exchange : (a b : List ℕ) → order_of b a ≡ exchanged (order_of a b)
+exchange : (a b : List ℕ) → order_of b a ≡ ordering_reverse (order_of a b)
 exchange a b = decided (turned (compared a b))
 
--- an order is not two
-abbrev number : Order → ℕ
-number Order.First = 0
-number Order.Second = 1
-number Order.Equal = 2
-
-apart : (x y : Order) {o : Order} → ltb (number x) (number y) ≡ true → o ≡ x → o ≡ y → ⊥
-apart x y t e f =
-    let l = ltb-true (number x) (number y) t in
-    let same : number x ≡ number y = ap number (sym e ∙ f) in
-    omega arith
-
-one_of : {x y : Order} (o : Order) → x ≡ o → y ≡ exchanged o → OneOf (x ≡ Order.First) (y ≡ Order.First) (x ≡ Order.Equal)
-one_of Order.First e f = OneOf.the_first e (λ z. apart Order.First Order.Second refl z f) (apart Order.First Order.Equal refl e)
-one_of Order.Second e f = OneOf.the_second (λ z. apart Order.First Order.Second refl z e) f (apart Order.Second Order.Equal refl e)
-one_of Order.Equal e f = OneOf.the_third (λ z. apart Order.First Order.Equal refl z e) (λ z. apart Order.First Order.Equal refl z f) e
+one_of : {x y : Ordering} (o : Ordering) → x ≡ o → y ≡ ordering_reverse o → OneOf (x ≡ Ordering.Less) (y ≡ Ordering.Less) (x ≡ Ordering.Equal)
+one_of Ordering.Less e f = OneOf.the_first e (λ z. cc) (λ z. cc)
+one_of Ordering.Greater e f = OneOf.the_second (λ z. cc) f (λ z. cc)
+one_of Ordering.Equal e f = OneOf.the_third (λ z. cc) (λ z. cc) e
 
 pub total : Total
 total = record { one_of = λ a b. one_of (order_of a b) refl (exchange a b); exchange = exchange }
 
 -- transitive; equal lists have the same words
-why : (a b : List ℕ) {o : Order} → order_of a b ≡ o → Compared a b o
+why : (a b : List ℕ) {o : Ordering} → order_of a b ≡ o → Compared a b o
 why a b e = subst (Compared a b) e (compared a b)
 
 same : (a b : List ℕ) → Equal a b → Same a b
@@ -57,8 +39,8 @@ before a b c e f = decided (joined (why a b e) (why b c f))
 alike_first : (a b c : List ℕ) → Equal a b → order_of a c ≡ order_of b c
 alike_first a b c e = sym (decided (replaced (same a b e) (compared a c)))
 
-alike_second : (a b c : List ℕ) → Equal a b → order_of c a ≡ order_of c b
-alike_second a b c e = exchange a c ∙ (ap exchanged (alike_first a b c e) ∙ sym (exchange b c))
+ordered : IsTotalOrder order_of
+ordered = record { antisymm = λ a b. exchange b a; trans = before; congr = alike_first }
 
 pub transitive : Transitive
 transitive =
@@ -67,14 +49,14 @@ transitive =
       equal = λ a b c e f. alike_first a b c e ∙ f;
       before_or_equal = λ a b c x y.
           ⊎_elim
-          (λ e. ⊎_elim (λ f. inl (before a b c e f)) (λ f. inl (sym (alike_second b c a f) ∙ e)) y)
+          (λ e. ⊎_elim (λ f. inl (before a b c e f)) (λ f. inl (sym (alike_right ordered b c a f) ∙ e)) y)
           (λ e. ⊎_elim (λ f. inl (alike_first a b c e ∙ f)) (λ f. inr (alike_first a b c e ∙ f)) y)
           x;
     }
 
 -- zeros after a list change no word of it
 unseen : (a : List ℕ) (n k : ℕ) → word_in (a ++ replicate n 0) k ≡ word_in a k
-unseen [] n k = get_d_zeros n k
+unseen [] n k = ⊎_elim (get_or-replicate n k 0 0) (λ (l : n ≤ k). get_or_past (replicate n 0) k 0 (rw length-replicate l)) (cases_lt k n)
 unseen (v ∷ a) n zero = refl
 unseen (v ∷ a) n (suc k) = unseen a n k
 
@@ -99,34 +81,35 @@ module _ (a b : List ℕ) (e : Same a b) where
 zeros_only : (a b : List ℕ) → Equal a b → TrailingZeros a b
 zeros_only a b q =
     let e = same a b q in
-    by_test (leb (length a) (length b))
-    (λ t.
+    ⊎_elim
+    (λ l.
+    record {
+      common = b;
+      first_zeros = length a - length b;
+      second_zeros = 0;
+      first = longer b a (λ k. sym (e k)) (le_of_lt l);
+      second = sym (append-nil b);
+    })
+    (λ l.
     record {
       common = a;
       first_zeros = 0;
       second_zeros = length b - length a;
       first = sym (append-nil a);
-      second = longer a b e (leb-true _ _ t);
+      second = longer a b e l;
     })
-    (λ t.
-    record {
-      common = b;
-      first_zeros = length a - length b;
-      second_zeros = 0;
-      first = longer b a (λ k. sym (e k)) (le_of_lt (leb-false _ _ t));
-      second = sym (append-nil b);
-    })
+    (cases_lt (length b) (length a))
 
 zeros_equal : (a b : List ℕ) → TrailingZeros a b → Equal a b
 zeros_equal a b z =
-    decided (Compared.equal (λ k. rw (z.first, z.second) (unseen z.common z.first_zeros k ∙ sym (unseen z.common z.second_zeros k))))
+    decided {a = a} {b = b} (Compared.equal (λ k. rw (z.first, z.second) (unseen z.common z.first_zeros k ∙ sym (unseen z.common z.second_zeros k))))
 
 pub equality : Equality
 equality =
     record {
-      reflexive = λ a. decided (Compared.equal (λ k. refl));
+      reflexive = tied_itself ordered;
       alike_first = alike_first;
-      alike_second = alike_second;
+      alike_second = alike_right ordered;
       zeros_only = zeros_only;
       zeros_equal = zeros_equal;
     }
@@ -139,10 +122,18 @@ too_long l mem r t = rw (r, t)
 pub load_alike : LoadAlike
 unfolding load_words_of
 load_alike a b mem q x y =
-    by_test (refused_length (length mem)) (λ r. rw r)
-    (λ r. by_test (ltb (length mem) (length a)) (λ t. absurd (x (too_long a mem r t)))
-    (λ t. by_test (ltb (length mem) (length b)) (λ u. absurd (y (too_long b mem r u)))
-    (λ u. rw (r, t, u, padded_alike a b (same a b q) (length mem) (ltb-false _ _ t) (ltb-false _ _ u)))))
+    elim (cases_Bool (refused_length (length mem))) [
+      | inl r ↦ rw r
+      | inr r ↦
+          elim (cases_Bool (ltb (length mem) (length a))) [
+            | inl t ↦ absurd (x (too_long a mem r t))
+            | inr t ↦
+                elim (cases_Bool (ltb (length mem) (length b))) [
+                  | inl u ↦ absurd (y (too_long b mem r u))
+                  | inr u ↦ rw (r, t, u, padded_alike a b (same a b q) (length mem) (ltb-false _ _ t) (ltb-false _ _ u))
+                ]
+          ]
+    ]
 
 -- the first word of a list from place p on, if it has one there
 begins : (l : List ℕ) (p w : ℕ) (ws : List ℕ) → drop (min p (length l)) l ≡ w ∷ ws → (p < length l) × (word_in l p ≡ w)
@@ -154,19 +145,15 @@ begins l p w ws q =
     (there, rw (drop-cons l p 0 there) at word)
 
 part_begins : (a b : Slice) (w : ℕ) (ws : List ℕ) → (earlier_part a b).words ≡ w ∷ ws → Smaller a.words b.words w
-unfolding earlier_part part_of order_of from_place
-part_begins a b w ws =
+part_begins a b w ws q =
     let p = place_of a.words b.words in
-    by_words_lem
-    (λ (o : Order). drop (min p (length (earlier_of o a.words b.words))) (earlier_of o a b).words ≡ w ∷ ws → Smaller a.words b.words w)
-    (word_in a.words p)
-    (word_in b.words p)
-    (λ l q. let s = (begins a.words p w ws q).1 in record { is_least = omega arith; below_other = omega arith })
-    (λ l q. let s = (begins b.words p w ws q).1 in record { is_least = omega arith; below_other = omega arith })
-    (λ e q.
-    let over = end_place a.words b.words e in
-    let there = (begins a.words p w ws q).0 in
+    by_ranked _ _ _ (order_of a.words b.words) (ranked (word_in a.words p) (word_in b.words p) _ refl)
+    (λ e l. let s = (begins a.words p w ws (rw e at q)).1 in record { is_least = omega arith; below_other = omega arith })
+    (λ e s.
+    let over = end_place a.words b.words s in
+    let there = (begins a.words p w ws (rw e at q)).0 in
     absurd (omega arith))
+    (λ e l. let s = (begins b.words p w ws (rw e at q)).1 in record { is_least = omega arith; below_other = omega arith })
 
 pub first_difference : FirstDifference
 first_difference =

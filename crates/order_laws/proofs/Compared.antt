@@ -1,25 +1,13 @@
 -- Why two lists compare as they do: a first place where they differ, or none. That the order is total and transitive follows from this alone.
-use Prim.Native.Nat.{ℕ, zero, suc, ◌+◌, ◌<◌, ◌≤◌, max}
-use mathlib.Core.List.{List}
-use mathlib.Core.Path.{◌≡◌, refl, sym, ◌∙◌}
-use mathlib.Core.Logic.{⊎_elim}
-use native.Mathlib.Omega.{arith}
-use native.Mathlib.Nat.{zero-add, eq-or-lt_of_le, le_antisymm}
-use lib.Dec.{ltb, eqb}
-use lib.ListN.{length}
-use borrow.Author.Tests.{ltb-true, ltb-false, eqb-true, eqb-false}
-use Rattle.instructions.proofs.Cases.{by_test, if_elim}
-use Rattle.order.specs.declared.Order.{Order}
-use Rattle.order.specs.Order.{word_in, differ_from, place_of, by_words, order_of}
-use Rattle.order.proofs.Laws.{past_end}
-use Rattle.order_laws.specs.Claims.{exchanged}
-
--- by cases of which word is smaller
-pub by_words_lem : (P : Order → Type 0) (v w : ℕ) → (v < w → P Order.First) → (w < v → P Order.Second) → (v ≡ w → P Order.Equal) → P (by_words v w)
-unfolding by_words
-by_words_lem P v w f g h =
-    if_elim P (ltb v w) (λ t. f (ltb-true _ _ t))
-    (λ t. if_elim P (ltb w v) (λ u. g (ltb-true _ _ u)) (λ u. h (le_antisymm (ltb-false _ _ u) (ltb-false _ _ t))))
+use Rattle.std.proofs.Common.{◌≡◌, ℕ, zero, suc, ◌+◌, ◌<◌, ◌≤◌, max, eqb, List, length, refl, sym, ◌∙◌, ⊎_elim, arith, zero-add}
+use Rattle.std.proofs.Math.Nat.{eq-or-lt_of_le}
+use Rattle.std.proofs.lemmas.Bool.{cases_lt, cases_order, eqb-true, eqb-false}
+use Rattle.std.proofs.lemmas.Cmp.{ranked, by_ranked}
+use Rattle.std.proofs.lemmas.List.{get_or_past}
+use Rattle.std.specs.declared.cmp.Ordering.{Ordering}
+use Rattle.std.specs.Ordering.{ordering_reverse}
+use Rattle.instructions.proofs.Cases.{if_elim}
+use Rattle.order.specs.Order.{word_in, differ_from, place_of, order_of}
 
 -- the words agree at every place, or at every place below p
 abbrev pub Same : List ℕ → List ℕ → Type 0
@@ -28,10 +16,10 @@ Same a b = (k : ℕ) → word_in a k ≡ word_in b k
 abbrev pub SameBelow : List ℕ → List ℕ → ℕ → Type 0
 SameBelow a b p = (k : ℕ) → k < p → word_in a k ≡ word_in b k
 
-pub data Compared (a b : List ℕ) : Order → Type 0 where
-  first : (p : ℕ) → SameBelow a b p → word_in a p < word_in b p → Compared a b Order.First
-  second : (p : ℕ) → SameBelow a b p → word_in b p < word_in a p → Compared a b Order.Second
-  equal : Same a b → Compared a b Order.Equal
+pub data Compared (a b : List ℕ) : Ordering → Type 0 where
+  first : (p : ℕ) → SameBelow a b p → word_in a p < word_in b p → Compared a b Ordering.Less
+  second : (p : ℕ) → SameBelow a b p → word_in b p < word_in a p → Compared a b Ordering.Greater
+  equal : Same a b → Compared a b Ordering.Equal
 
 module _ (a b : List ℕ) where
   -- the places from k on that the search passes over agree
@@ -63,30 +51,28 @@ module _ (a b : List ℕ) where
   pub same_all : word_in a (place_of a b) ≡ word_in b (place_of a b) → Same a b
   same_all s k =
       let end = end_place s in
-      by_test (ltb k (place_of a b))
-      (λ t. same_before k (ltb-true _ _ t))
-      (λ t. let past : place_of a b ≤ k = ltb-false _ _ t in sym (past_end a k (omega arith)) ∙ past_end b k (omega arith))
+      ⊎_elim
+      (same_before k)
+      (λ (past : place_of a b ≤ k). get_or_past a k 0 (omega arith) ∙ sym (get_or_past b k 0 (omega arith)))
+      (cases_lt k (place_of a b))
 
   pub compared : Compared a b (order_of a b)
-  unfolding order_of
   compared =
       let p = place_of a b in
-      by_words_lem (Compared a b) (word_in a p) (word_in b p) (Compared.first p same_before) (Compared.second p same_before)
-      (λ e. Compared.equal (same_all e))
-
--- where two places stand to each other
-three_ways : {A : Type 0} (p q : ℕ) → (p < q → A) → (p ≡ q → A) → (q < p → A) → A
-three_ways {A} p q f g h = by_words_lem (λ (o : Order). A) p q f h g
+      by_ranked _ _ _ (order_of a b) (ranked (word_in a p) (word_in b p) (order_of a b) refl)
+      (λ e l. rw e (Compared.first p same_before l))
+      (λ e s. rw e (Compared.equal (same_all s)))
+      (λ e l. rw e (Compared.second p same_before l))
 
 -- two lists compare in one way only
 clash : (a b : List ℕ) (p q : ℕ) → SameBelow a b p → word_in a p < word_in b p → SameBelow a b q → word_in b q < word_in a q → ⊥
 clash a b p q f l g m =
-    three_ways p q
-    (λ t. let h = g p t in omega arith)
+    ⊎_elim
     (λ e. let h = rw (← e) at m in omega arith)
-    (λ t. let h = f q t in omega arith)
+    (⊎_elim (λ t. let h = g p t in omega arith) (λ t. let h = f q t in omega arith))
+    (cases_order p q)
 
-pub unique : {a b : List ℕ} {o x : Order} → Compared a b o → Compared a b x → o ≡ x
+pub unique : {a b : List ℕ} {o x : Ordering} → Compared a b o → Compared a b x → o ≡ x
 unique {a} {b} (first p f l) (first q g m) = refl
 unique {a} {b} (first p f l) (second q g m) = absurd (clash a b p q f l g m)
 unique {a} {b} (first p f l) (equal g) = absurd (let h = g p in omega arith)
@@ -97,27 +83,29 @@ unique {a} {b} (equal f) (first q g m) = absurd (let h = f q in omega arith)
 unique {a} {b} (equal f) (second q g m) = absurd (let h = f q in omega arith)
 unique {a} {b} (equal f) (equal g) = refl
 
-pub decided : {a b : List ℕ} {o : Order} → Compared a b o → order_of a b ≡ o
+pub decided : {a b : List ℕ} {o : Ordering} → Compared a b o → order_of a b ≡ o
 decided {a} {b} c = unique (compared a b) c
 
 -- the lists exchanged
-pub turned : {a b : List ℕ} {o : Order} → Compared a b o → Compared b a (exchanged o)
+pub turned : {a b : List ℕ} {o : Ordering} → Compared a b o → Compared b a (ordering_reverse o)
 turned (first p f l) = Compared.second p (λ k h. sym (f k h)) l
 turned (second p f l) = Compared.first p (λ k h. sym (f k h)) l
 turned (equal f) = Compared.equal (λ k. sym (f k))
 
 -- a list for the first that has the same words
-pub replaced : {a b c : List ℕ} {o : Order} → Same a b → Compared a c o → Compared b c o
+pub replaced : {a b c : List ℕ} {o : Ordering} → Same a b → Compared a c o → Compared b c o
 replaced e (first p f l) = Compared.first p (λ k h. sym (e k) ∙ f k h) (rw (← e p) l)
 replaced e (second p f l) = Compared.second p (λ k h. sym (e k) ∙ f k h) (rw (← e p) l)
 replaced e (equal f) = Compared.equal (λ k. sym (e k) ∙ f k)
 
-pub joined : {a b c : List ℕ} → Compared a b Order.First → Compared b c Order.First → Compared a c Order.First
+pub joined : {a b c : List ℕ} → Compared a b Ordering.Less → Compared b c Ordering.Less → Compared a c Ordering.Less
 joined (first p f l) (first q g m) =
-    three_ways p q
-    (λ t. Compared.first p (λ k h. f k h ∙ g k (omega arith)) (rw (← g p t) l))
+    ⊎_elim
     (λ e. Compared.first p (λ k h. f k h ∙ g k (omega arith)) (let n = rw (← e) at m in omega arith))
-    (λ t. Compared.first q (λ k h. f k (omega arith) ∙ g k h) (rw (f q t) m))
+    (⊎_elim
+    (λ t. Compared.first p (λ k h. f k h ∙ g k (omega arith)) (rw (← g p t) l))
+    (λ t. Compared.first q (λ k h. f k (omega arith) ∙ g k h) (rw (f q t) m)))
+    (cases_order p q)
 
-pub all_same : {a b : List ℕ} → Compared a b Order.Equal → Same a b
+pub all_same : {a b : List ℕ} → Compared a b Ordering.Equal → Same a b
 all_same (equal f) = f

@@ -1,24 +1,19 @@
 -- What is claimed of the order of word lists (document 02, CR 1).
+use Rattle.std.specs.Ordering.{ordering_reverse}
+use Rattle.std.specs.declared.cmp.Ordering.{Ordering}
 use Rattle.std.specs.Prelude.{ℕ, ◌<◌, min, max, List, ◌∷◌, ◌++◌, ◌⊎◌, ◌≡◌, replicate}
-use Rattle.order.specs.declared.Order.{Order}
 use Rattle.order.specs.Order.{word_in, place_of, order_of, Slice, earlier_part}
 use Rattle.sheet.specs.declared.load.Loaded.{Loaded}
 use Rattle.sheet.specs.Load.{load_words_of}
 
 abbrev pub Before : List ℕ → List ℕ → Type 0
-Before a b = order_of a b ≡ Order.First
+Before a b = order_of a b ≡ Ordering.Less
 
 abbrev pub Equal : List ℕ → List ℕ → Type 0
-Equal a b = order_of a b ≡ Order.Equal
+Equal a b = order_of a b ≡ Ordering.Equal
 
 abbrev pub BeforeOrEqual : List ℕ → List ℕ → Type 0
 BeforeOrEqual a b = Before a b ⊎ Equal a b
-
--- what an order becomes when the lists are exchanged
-abbrev pub exchanged : Order → Order
-exchanged Order.First = Order.Second
-exchanged Order.Second = Order.First
-exchanged Order.Equal = Order.Equal
 
 -- exactly one of three
 pub data OneOf (P Q R : Type 0) : Type 0 where
@@ -28,7 +23,8 @@ pub data OneOf (P Q R : Type 0) : Type 0 where
 
 pub record Total : Type 0 where
   pub one_of : (a b : List ℕ) → OneOf (Before a b) (Before b a) (Equal a b)
-  pub exchange : (a b : List ℕ) → order_of b a ≡ exchanged (order_of a b)
+  -- the lists exchanged
+  pub exchange : (a b : List ℕ) → order_of b a ≡ ordering_reverse (order_of a b)
 
 -- a relation of lists is transitive
 abbrev pub TransitiveFor : (List ℕ → List ℕ → Type 0) → Type 0

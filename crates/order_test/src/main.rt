@@ -2,7 +2,7 @@
 // on the part of the earlier list is, and after a colon the part; of a long list, how long the part is, and its first word.
 #![tactic(auto)]
 
-use order::Order;
+use std::cmp::Ordering;
 use std::io;
 
 fn text(rt: &impl Print, s: &[u8]) -> io::Result<()> {
@@ -25,11 +25,11 @@ fn words(rt: &impl Print, list: &[u16]) -> io::Result<()> {
 }
 
 // < if the first comes first, > if the second does.
-fn sign(rt: &impl Print, order: Order) -> io::Result<()> {
+fn sign(rt: &impl Print, order: Ordering) -> io::Result<()> {
     match order {
-        Order::First => text(rt, b" <"),
-        Order::Second => text(rt, b" >"),
-        Order::Equal => text(rt, b" ="),
+        Ordering::Less => text(rt, b" <"),
+        Ordering::Greater => text(rt, b" >"),
+        Ordering::Equal => text(rt, b" ="),
     }
 }
 
