@@ -1,6 +1,7 @@
 -- Which of two word lists comes first (document 02, CR 1): they are compared at the first place where they differ, the shorter taken as
 -- followed by zeros.
-use Rattle.std.specs.Prelude.{ℕ, zero, suc, ◌+◌, ◌*◌, min, max, List, length, get_or, drop, eqb, if◌then◌else◌}
+use Rattle.std.specs.Prelude.{ℕ, ◌+◌, ◌*◌, min, max, Bool, not, ◌==◌, List, length, drop, slice_index}
+use Rattle.std.specs.List.{position_or_len, range_with_len}
 use Rattle.std.specs.Ordering.{nat_cmp, min_by_ordering}
 use Rattle.std.specs.Borrow.{Bor}
 use Rattle.std.specs.declared.cmp.Ordering.{Ordering}
@@ -8,16 +9,15 @@ use Rattle.order.specs.declared.Part.{Part}
 
 -- the word at a place: 0 past the end
 abbrev pub word_in : List ℕ → ℕ → ℕ
-word_in words k = get_or words k 0
+word_in words k = slice_index words k
 
--- the first of n places from k on where they differ; the place past those if there is none
-unfoldable pub differ_from : ℕ → ℕ → List ℕ → List ℕ → ℕ
-differ_from zero k first second = k
-differ_from (suc n) k first second = if eqb (word_in first k) (word_in second k) then differ_from n (k + 1) first second else k
+-- whether their words at a place differ
+abbrev pub differ_at : List ℕ → List ℕ → ℕ → Bool
+differ_at first second k = not (word_in first k == word_in second k)
 
 -- the first place where they differ; if there is none, the end of the longer, from which on both have only zeros
 unfoldable pub place_of : List ℕ → List ℕ → ℕ
-place_of first second = differ_from (max (length first) (length second)) 0 first second
+place_of first second = position_or_len (differ_at first second) (range_with_len 0 (max (length first) (length second)))
 
 -- the order of two lists, that of their words at that place: `Less` where the first comes first, `Greater` where the second does
 abbrev pub order_of : List ℕ → List ℕ → Ordering

@@ -1,7 +1,7 @@
 // Which of two word lists comes first. They are compared at the first place where they differ, the shorter taken as followed by zeros.
 #![tactic(auto)]
 
-ghost use Rattle.std.specs.Prelude.{◌≡◌, min, max, length};
+ghost use Rattle.std.specs.Prelude.{◌≡◌, min, length};
 ghost use Rattle.std.specs.Ordering.{nat_cmp, min_by_ordering};
 ghost use Rattle.order.specs.Order.{word_in, place_of, order_of, part_of, slice_of, from_place, earlier_part};
 
@@ -19,33 +19,17 @@ pub struct Part {
 fn word_in(words: &[u16], at: usize) -> u16
     ensures { result ≡ word_in words.now at }
 {
-    if at < words.len() { words[at] } else { 0 }
-}
-
-// The length of the longer.
-fn longer(first: &[u16], second: &[u16]) -> usize
-    ensures { result ≡ max (length first.now) (length second.now) }
-{
-    if first.len() < second.len() {
-        second.len()
-    } else {
-        first.len()
-    }
+    words.get(at).copied().unwrap_or(0)
 }
 
 // The first place where they differ; if there is none, the end of the longer.
 fn place(first: &[u16], second: &[u16]) -> usize
     ensures { result ≡ place_of first.now second.now }
 {
-    let end = longer(first, second);
-    let mut at = 0;
-    while at < end {
-        if word_in(first, at) != word_in(second, at) {
-            return at;
-        }
-        at += 1;
-    }
-    at
+    let end = first.len().max(second.len());
+    (0..end)
+        .position(|at| word_in(first, at) != word_in(second, at))
+        .unwrap_or(end)
 }
 
 // The order of the words at a place: the smaller comes first.
@@ -59,7 +43,7 @@ fn order_at(first: &[u16], second: &[u16], at: usize) -> Ordering
 fn within(words: &[u16], at: usize) -> usize
     ensures { result ≡ min at (length words.now) }
 {
-    if at < words.len() { at } else { words.len() }
+    at.min(words.len())
 }
 
 // The list from a place on; its empty end if it is over there.

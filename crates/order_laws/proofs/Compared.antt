@@ -1,13 +1,13 @@
 -- Why two lists compare as they do: a first place where they differ, or none. That the order is total and transitive follows from this alone.
-use Rattle.std.proofs.Common.{◌≡◌, ℕ, zero, suc, ◌+◌, ◌<◌, ◌≤◌, max, eqb, List, length, refl, sym, ◌∙◌, ⊎_elim, arith, zero-add}
-use Rattle.std.proofs.Math.Nat.{eq-or-lt_of_le}
-use Rattle.std.proofs.lemmas.Bool.{cases_lt, cases_order, eqb-true, eqb-false}
+use Rattle.std.proofs.Common.{◌≡◌, ℕ, ◌<◌, ◌≤◌, max, List, length, refl, sym, ◌∙◌, ⊎_elim, arith}
+use Rattle.std.proofs.lemmas.Bool.{cases_lt, cases_order}
+use Rattle.std.proofs.lemmas.Bool.Decides.{nat_tests}
 use Rattle.std.proofs.lemmas.Cmp.{ranked, by_ranked}
 use Rattle.std.proofs.lemmas.List.{get_or_past}
 use Rattle.std.specs.declared.cmp.Ordering.{Ordering}
 use Rattle.std.specs.Ordering.{ordering_reverse}
-use Rattle.instructions.proofs.Cases.{if_elim}
-use Rattle.order.specs.Order.{word_in, differ_from, place_of, order_of}
+use Rattle.order.specs.Order.{word_in, differ_at, place_of, order_of}
+use Rattle.order.proofs.Laws.{first_within, fails_before, passes_there}
 
 -- the words agree at every place, or at every place below p
 abbrev pub Same : List ℕ → List ℕ → Type 0
@@ -22,31 +22,16 @@ pub data Compared (a b : List ℕ) : Ordering → Type 0 where
   equal : Same a b → Compared a b Ordering.Equal
 
 module _ (a b : List ℕ) where
-  -- the places from k on that the search passes over agree
-  same_from : (n k j : ℕ) → k ≤ j → j < differ_from n k a b → word_in a j ≡ word_in b j
-  unfolding differ_from
-  same_from zero k j l = λ m. absurd (omega arith)
-  same_from (suc n) k j l =
-      if_elim (λ (p : ℕ). j < p → word_in a j ≡ word_in b j) (eqb (word_in a k) (word_in b k))
-      (λ e m. ⊎_elim (λ q. rw (← q) (eqb-true _ _ e)) (λ h. same_from n (k + 1) j (omega arith) m) (eq-or-lt_of_le l))
-      (λ e m. absurd (omega arith))
-
-  -- where the words agree at its end, it passed over all
-  passed_all : (n k : ℕ) → word_in a (differ_from n k a b) ≡ word_in b (differ_from n k a b) → differ_from n k a b ≡ k + n
-  unfolding differ_from
-  passed_all zero k = λ s. omega arith
-  passed_all (suc n) k =
-      if_elim (λ (p : ℕ). word_in a p ≡ word_in b p → p ≡ k + suc n) (eqb (word_in a k) (word_in b k))
-      (λ e s. let h : differ_from n (k + 1) a b ≡ k + 1 + n = passed_all n (k + 1) s in omega arith)
-      (λ e s. absurd (eqb-false _ _ e s))
-
   pub same_before : SameBelow a b (place_of a b)
   unfolding place_of
-  same_before k l = same_from (max (length a) (length b)) 0 k (omega arith) l
+  same_before k l = grind (arith, nat_tests, fails_before (differ_at a b) (max (length a) (length b)) k l)
 
+  -- where the words agree at the place, it is the end of the longer
   pub end_place : word_in a (place_of a b) ≡ word_in b (place_of a b) → place_of a b ≡ max (length a) (length b)
   unfolding place_of
-  end_place s = passed_all (max (length a) (length b)) 0 s ∙ zero-add _
+  end_place s =
+      let end = max (length a) (length b) in
+      grind (arith, nat_tests, first_within (differ_at a b) end, passes_there (differ_at a b) end)
 
   pub same_all : word_in a (place_of a b) ≡ word_in b (place_of a b) → Same a b
   same_all s k =
