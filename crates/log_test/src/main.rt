@@ -63,11 +63,10 @@ fn show_words(rt: &impl Print, log: &[u32]) -> io::Result<()> {
 fn run_in(rt: &impl Print, log: &mut [u32]) -> io::Result<()> {
     let mut memory = RULE;
     let mut marks = [0u8; 7];
-    let run = Core::new().run_logged(&mut memory, &mut marks, LIMIT, log);
-    let end = run.end;
-    show_end(rt, end)?;
-    number(rt, run.steps as u64)?;
-    number(rt, run.logged as u64)?;
+    let logged = Core::new().run_logged(&mut memory, &mut marks, LIMIT, log);
+    show_end(rt, logged.run.end)?;
+    number(rt, logged.run.steps as u64)?;
+    number(rt, logged.logged as u64)?;
     text(rt, b":")?;
     show_words(rt, log)?;
     text(rt, b"\n")

@@ -22,10 +22,9 @@ pub extern "C" fn nilguseg_run_logged(
 ) -> u64
     ensures { call result (core.new ∷ memory.new ∷ marks.new ∷ log.new ∷ (logged.new ∷ []) ∷ []) ≡ logged_call (run_logged_of plan_of (core_from core.old) (lent memory.old marks.old) limit log.old) }
 {
-    let run = core_of(*core).run_logged(memory, marks, limit, log);
-    let after = run.core;
-    let end = run.end;
-    put_core(after, core);
-    *logged = run.logged;
-    end_number(end) as u64 * 0x100000000 + run.steps as u64
+    let logged_run = core_of(*core).run_logged(memory, marks, limit, log);
+    let run = logged_run.run;
+    put_core(run.core, core);
+    *logged = logged_run.logged;
+    end_number(run.end) as u64 * 0x100000000 + run.steps as u64
 }

@@ -1,5 +1,6 @@
 -- The replay of a run's log is the run: the run on memory and the run on its log go side by side. Nothing here looks at an instruction.
 use Prim.Native.Nat.{ℕ, ◌%◌}
+use Rattle.std.specs.Prelude.{Result, Ok}
 use mathlib.Core.Bool.{false}
 use mathlib.Core.List.{List, [], ◌++◌, append-nil, append_assoc, append_cancel_left}
 use mathlib.Core.Path.{◌≡◌, refl, sym, ap, ◌∙◌}
@@ -10,12 +11,12 @@ use Rattle.instructions.proofs.Cases.{if_elim, if_both, by_test}
 use Rattle.execute_laws.specs.Words.{IsWord}
 use Rattle.emulator.specs.Log.{entry_of, read_log, Logged}
 use Rattle.emulator.specs.Memory.{Memory, lent, refused_length, mark_read, Accessed, accessed, read_of, write_of}
-use Rattle.emulator.specs.Machine.{plan_of, memory_store, refusal_of, unmarked, Ran, plain, run_from}
+use Rattle.emulator.specs.Machine.{plan_of, memory_store, refusal_of, unmarked, Ran, plain, full_in, run_from}
 use Rattle.emulator.specs.declared.log.Purpose.{Purpose}
-use Rattle.emulator.specs.declared.memory.Read.{Read}
-use Rattle.emulator.specs.declared.memory.Write.{Write}
+use Rattle.emulator.specs.declared.refusal.LogEnd.TheVariants.{Full}
+use Rattle.emulator.specs.declared.stop.Stop.{Stop}
 use Rattle.emulator.proofs.Keeps.{Leads}
-use Rattle.emulator.proofs.Runs.{accepted_run}
+use Rattle.emulator.proofs.Whole.{accepted_run}
 use Rattle.replay.specs.Replay.{Tape, tape, read_tape, write_tape, tape_store, answer_of, replay_of}
 use Rattle.replay.proofs.Replays.{Begins, begins_leads}
 use Rattle.replay.proofs.Tapes.{same_self}
@@ -52,13 +53,13 @@ seen_leads F =
 module _ (F : List ℕ) where
   -- a read in range finds its entry next on the tape
   entry_next : (p : Purpose) (l : List ℕ) (m : Memory) (t : Tape) (a : ℕ) → OnTape F l m t → Begins (l ++ entry_of p a (get_or m.words a 0)) F
-      → Same {S = Memory} {S' = Tape} (accessed (Read.Word (get_or m.words a 0)) (lent m.words (mark_read m.marks a))) (accessed (Read.Word (get_or t.rest 1 0 % 65536)) (tape t.size (drop 2 t.rest))) (OnTape F (l ++ entry_of p a (get_or m.words a 0)))
+      → Same {S = Memory} {S' = Tape} {A = Result ℕ Stop} (accessed (Ok (get_or m.words a 0)) (lent m.words (mark_read m.marks a))) (accessed (Ok (get_or t.rest 1 0 % 65536)) (tape t.size (drop 2 t.rest))) (OnTape F (l ++ entry_of p a (get_or m.words a 0)))
   entry_next p l m t a h b =
       let w : ℕ = get_or m.words a 0 in
       let next : t.rest ≡ entry_of p a w ++ b.more = append_cancel_left l t.rest (entry_of p a w ++ b.more) (sym h.rest ∙ (b.is ∙ append_assoc l (entry_of p a w) b.more)) in
       let fit = h.fits a in
       record {
-        answer = rw next (ap Read.Word (omega arith));
+        answer = rw next (ap (λ (v : ℕ). Ok v) (omega arith));
         kept = rw next (record { size = h.size; rest = b.is; fits = h.fits });
       }
 
@@ -66,7 +67,7 @@ module _ (F : List ℕ) where
       → Same (read_of m a) (read_tape t a) (OnTape F (l ++ read_log p a (read_of m a).answer))
   unfolding read_of read_tape
   twin_read p l m t a h seen =
-      if_both (λ (x : Accessed Memory Read) (y : Accessed Tape Read). Begins (l ++ read_log p a x.answer) F → Same x y (OnTape F (l ++ read_log p a x.answer))) (ltb a (length m.words)) (ltb a t.size)
+      if_both (λ (x : Accessed Memory (Result ℕ Stop)) (y : Accessed Tape (Result ℕ Stop)). Begins (l ++ read_log p a x.answer) F → Same x y (OnTape F (l ++ read_log p a x.answer))) (ltb a (length m.words)) (ltb a t.size)
       (ap (λ (n : ℕ). ltb a n) (sym h.size))
       (λ _ b. entry_next p l m t a h b)
       (λ _ _. record { answer = refl; kept = rw append-nil h })
@@ -75,14 +76,14 @@ module _ (F : List ℕ) where
   twin_write : (l : List ℕ) (m : Memory) (t : Tape) (a v : ℕ) → IsWord v → OnTape F l m t → Same (write_of m a v) (write_tape t a v) (OnTape F l)
   unfolding write_of write_tape
   twin_write l m t a v w h =
-      if_both (λ (x : Accessed Memory Write) (y : Accessed Tape Write). Same x y (OnTape F l)) (ltb a (length m.words)) (ltb a t.size)
+      if_both (λ (x : Accessed Memory (Result (Unit {0}) Stop)) (y : Accessed Tape (Result (Unit {0}) Stop)). Same x y (OnTape F l)) (ltb a (length m.words)) (ltb a t.size)
       (ap (λ (n : ℕ). ltb a n) (sym h.size))
       (λ _. record { answer = refl; kept = record { size = h.size ∙ sym (length-set m.words a v); rest = h.rest; fits = set_fits m.words a v w h.fits } })
       (λ _. record { answer = refl; kept = h })
 
   read_fits : (m : Memory) (a : ℕ) → MemoryFits m → ReadFits IsWord (read_of m a).answer
   unfolding read_of
-  read_fits m a h = if_elim (λ (x : Accessed Memory Read). ReadFits IsWord x.answer) (ltb a (length m.words)) (λ _. h a) (λ _. tt)
+  read_fits m a h = if_elim (λ (x : Accessed Memory (Result ℕ Stop)). ReadFits IsWord x.answer) (ltb a (length m.words)) (λ _. h a) (λ _. tt)
 
   on_tape : Simulates memory_store tape_store plan_of IsWord CoreFits (OnTape F) (Seen F)
   on_tape =
@@ -115,7 +116,7 @@ replay_is_run given c m limit core memory ok room =
 
     twins : RanTwins memory_store tape_store plan_of IsWord CoreFits (OnTape F) (Seen F) (on_tape F) (run_from memory_store plan_of plain limit 0 c (unmarked m) []) q
     twins =
-        twin_run memory_store tape_store plan_of IsWord CoreFits (OnTape F) (Seen F) (on_tape F) plain limit 0 c (unmarked m) (tape (length m.words) F) [] core
+        twin_run memory_store tape_store plan_of IsWord CoreFits (OnTape F) (Seen F) (on_tape F) (full_in plain) Full limit 0 c (unmarked m) (tape (length m.words) F) [] core
         (record { size = refl; rest = refl; fits = memory })
         (record { more = []; is = sym (append-nil F) })
 

@@ -49,10 +49,10 @@ fn seen_again(case: &[u8; 222]) -> bool {
     let mut log = [0u32; LOG];
     let limit = word(case, 1) as u32;
     let r = core_of(case).run_logged(&mut memory, &mut marks, limit, &mut log);
-    let after = r.core;
-    let end = r.end;
     let logged = r.logged;
-    r.steps == word(case, 50) as u32
+    let after = r.run.core;
+    let end = r.run.end;
+    r.run.steps == word(case, 50) as u32
         && same_end(end, case)
         && same_core(after, case)
         && same_memory(&memory, &marks, case)
