@@ -117,6 +117,6 @@ module _ {S : Type 0} (on : Store S) (over : List ℕ → Bool) (why : LogEnd) (
             pub end_fault : (s : Stop) → turn (stop_of s) d m' ≡ cycled.result → Ends After (ran (stop_of s) n d m')
             end_fault s t =
                 let left : logged (ran (stop_of s) n d m') (now.log ++ cycled.log) ≡ whole =
-                    stop_elim (λ (o : Outcome). logged (ran o n d m') (now.log ++ cycled.log) ≡ then (logged (turn o d m') cycled.log)) (λ j v. refl) s
-                    ∙ next _ t in
+                stop_elim (λ (o : Outcome). logged (ran o n d m') (now.log ++ cycled.log) ≡ then (logged (turn o d m') cycled.log)) (λ j v. refl) s
+                ∙ next _ t in
                 record { run = ap (λ (r : Logged (Ran S)). r.result) left; noted = rw (ap (λ (r : Logged (Ran S)). r.log) left) at noted }

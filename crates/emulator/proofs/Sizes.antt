@@ -48,6 +48,6 @@ module _ {S : Type 0} (on : Store S) (plan : Core → ℕ → Plan) where
         if_elim Fits (is_halted c) (λ _. w)
         (λ _. if_elim Fits (is_full (words size) (length l)) (λ _. w)
         (λ free.
-            let four : 4 ≤ size - length l = ltb-false _ _ free in
-            let short = cycle_short c m in
-            next_fits (run_until on plan (full_in (setting (words size))) why k (n + 1)) n l (run_fits k (n + 1)) (cycle_of on plan c m) (rw length-append (omega arith))))
+        let four : 4 ≤ size - length l = ltb-false _ _ free in
+        let short = cycle_short c m in
+        next_fits (run_until on plan (full_in (setting (words size))) why k (n + 1)) n l (run_fits k (n + 1)) (cycle_of on plan c m) (rw length-append (omega arith))))

@@ -94,9 +94,8 @@ impl Core {
     pub fn new() -> Self
         ensures { result ≡ new_core }
     {
-        let gprs = [0u16; 8];
         Self {
-            gprs,
+            gprs: [0; 8],
             ip: 0,
             rp: 0,
             sp: 0xFFFF,
@@ -107,15 +106,13 @@ impl Core {
     pub fn read_gpr(self, reg: GPR) -> u16
         ensures { result ≡ read_gpr self reg }
     {
-        let gprs = self.gprs;
-        execute::read_gpr(&gprs, reg)
+        execute::read_gpr(&self.gprs, reg)
     }
 
     pub fn write_gpr(mut self, reg: GPR, value: u16) -> Self
         ensures { result ≡ write_gpr self reg value }
     {
-        let i = reg.encode() as usize;
-        self.gprs[i] = value;
+        self.gprs[reg.encode() as usize] = value;
         self
     }
 
@@ -129,45 +126,30 @@ impl Core {
         ensures { result ≡ write_spr self reg value }
     {
         match reg {
-            SPR::IP => {
-                self.ip = value;
-                self
-            }
-            SPR::RP => {
-                self.rp = value;
-                self
-            }
-            SPR::SP => {
-                self.sp = value;
-                self
-            }
-            SPR::EF => {
-                self.ef = value;
-                self
-            }
+            SPR::IP => self.ip = value,
+            SPR::RP => self.rp = value,
+            SPR::SP => self.sp = value,
+            SPR::EF => self.ef = value,
         }
+        self
     }
 
     pub fn is_halted(self) -> bool
         ensures { result ≡ is_halted self }
     {
-        let ef = self.ef;
-        execute::is_halted(ef)
+        execute::is_halted(self.ef)
     }
 
     pub fn is_cond_set(self) -> bool
         ensures { result ≡ is_cond_set self }
     {
-        let ef = self.ef;
-        execute::is_cond_set(ef)
+        execute::is_cond_set(self.ef)
     }
 
     pub fn set_cond(mut self, val: bool) -> Self
         ensures { result ≡ set_cond self val }
     {
-        let ef = self.ef;
-        let flags = execute::with_cond(ef, val);
-        self.ef = flags;
+        self.ef = execute::with_cond(self.ef, val);
         self
     }
 

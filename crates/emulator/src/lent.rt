@@ -10,19 +10,15 @@ use crate::core_record::{Answer, Core, Step};
 pub fn step_lent(core: &mut Core, memory: &mut [u16], marks: &mut [u8]) -> Answer
     ensures { turn (answer_of result) core.new (lent memory.new marks.new) ≡ step_of plan_of core.old (lent memory.old marks.old) }
 {
-    let s = (*core).step(memory, marks);
-    *core = s.core;
-    s.answer
+    let step = core.step(memory, marks);
+    *core = step.core;
+    step.answer
 }
 
 // The same for callers that hold the core by value.
-pub fn step_by_lent(core: Core, memory: &mut [u16], marks: &mut [u8]) -> Step
+pub fn step_by_lent(mut core: Core, memory: &mut [u16], marks: &mut [u8]) -> Step
     ensures { turn (answer_of result.answer) result.core (lent memory.new marks.new) ≡ step_of plan_of core (lent memory.old marks.old) }
 {
-    let mut c = core;
-    let answer = step_lent(&mut c, memory, marks);
-    Step {
-        core: c,
-        answer: answer,
-    }
+    let answer = step_lent(&mut core, memory, marks);
+    Step { core, answer }
 }

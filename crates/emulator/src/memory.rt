@@ -15,7 +15,11 @@ use crate::store::Store;
 pub fn read_mark(m: u8) -> u8
     ensures { result ≡ read_mark m }
 {
-    if m / 2 % 2 == 1 || m % 2 == 1 { m } else { m + 1 }
+    if m / 2 % 2 == 1 || m % 2 == 1 {
+        m
+    } else {
+        m + 1
+    }
 }
 
 // A mark after a write: bit 1 is set.
