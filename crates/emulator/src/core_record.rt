@@ -1,10 +1,10 @@
 // The core record: its registers, one step, and the run.
-ghost use Rattle.std.specs.Prelude.{◌≡◌};
+ghost use Rattle.std.specs.Prelude.{◌≡◌, [], length};
 ghost use Rattle.emulator.specs.Core.{new_core, read_gpr, write_gpr, read_spr, write_spr, is_halted, is_cond_set, set_cond};
 ghost use Rattle.emulator.specs.Log.{written};
 ghost use Rattle.emulator.specs.Memory.{lent};
 ghost use Rattle.emulator.specs.Outcome.{answer_of, end_of, answered_of};
-ghost use Rattle.emulator.specs.Machine.{plan_of, turn, refusal_of, test_number, step_of, ran, ran_logged, run_of, run_logged_of};
+ghost use Rattle.emulator.specs.Machine.{plan_of, turn, refusal_of, test_number, step_of, memory_store, plain, run_from, ran, ran_logged, run_of, run_logged_of};
 
 use crate::cycle::{End, turns};
 use crate::logging::LoggedMemory;
@@ -72,6 +72,15 @@ fn refused(core: Core, refusal: Refusal) -> Run
         steps: 0,
         end: End::Refused(refusal),
     }
+}
+
+// The turns of a run or a step without a log. Both call this one function, so that the loop stands in it alone, on slices (docs/PERFORMANCE.md).
+fn plain_turns(core: Core, words: &mut [u16], marks: &mut [u8], limit: u32) -> Run
+    requires { length marks.old ≡ length words.old }
+    ensures { ran (end_of result.end) result.steps result.core (lent words.new marks.new) ≡ (run_from memory_store plan_of plain limit 0 core (lent words.old marks.old) []).result }
+{
+    let mut lent = MarkedMemory { words, marks };
+    turns(core, &mut lent, limit)
 }
 
 // What a step answers, from the count and the end of a run of one turn.
@@ -163,11 +172,7 @@ impl Core {
                 answer: Answer::Refused(refusal),
             };
         }
-        let mut lent = MarkedMemory {
-            words: memory,
-            marks,
-        };
-        let run = turns(self, &mut lent, 1);
+        let run = plain_turns(self, memory, marks, 1);
         Step {
             core: run.core,
             answer: answered(run.steps, run.end),
@@ -182,11 +187,7 @@ impl Core {
             return refused(self, refusal);
         }
         marks.fill(0);
-        let mut lent = MarkedMemory {
-            words: memory,
-            marks,
-        };
-        turns(self, &mut lent, limit)
+        plain_turns(self, memory, marks, limit)
     }
 
     // The run with a log of its reads, which is written to the front of the lent one. It also ends where fewer than four words are free.
