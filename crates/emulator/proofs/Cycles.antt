@@ -1,5 +1,5 @@
 -- Laws of a cycle on any store: one for each way through the code.
-use Rattle.std.specs.Prelude.{◌≡◌, ℕ, List, [], ◌++◌, Result, Ok, Err}
+use Rattle.std.specs.Prelude.{◌≡◌, ℕ, [], ◌++◌, Result, Ok, Err}
 use Rattle.instructions.specs.Decoding.{decode_of, undecodable}
 use Rattle.instructions.specs.declared.ins.Instruction.{Instruction}
 use Rattle.instructions.specs.declared.ins.encoding.Undecodable.{Undecodable}

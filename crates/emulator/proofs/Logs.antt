@@ -1,13 +1,13 @@
 -- Laws of the log's buffer.
-use Rattle.std.specs.Prelude.{◌≡◌, ◌⊎◌, ℕ, ◌+◌, ◌-◌, ◌<◌, ◌≤◌, Bool, true, false, ltb, List, [], ◌++◌, length, set}
+use Rattle.std.specs.Prelude.{◌≡◌, ◌⊎◌, ℕ, ◌+◌, ◌-◌, ◌<◌, ◌≤◌, ltb, List, ◌++◌, length, set}
 use mathlib.Core.Logic.{⊎_elim, inl, inr}
-use mathlib.Core.Path.{refl, sym, ap, ◌∙◌}
-use native.Mathlib.Nat.{add-zero, zero-add}
+use mathlib.Core.Path.{sym, ap, ◌∙◌}
+use native.Mathlib.Nat.{zero-add}
 use native.Mathlib.Numerals.{add-one}
 use native.Mathlib.Omega.{arith}
 use lib.ListN.{length-append}
 use lib.Seq.{sets, length-sets}
-use borrow.Author.Tests.{ltb-true, ltb-false, lt-ltb, le-ltb}
+use borrow.Author.Tests.{ltb-true, ltb-false, lt-ltb}
 use Rattle.instructions.proofs.Cases.{by_test}
 use Rattle.emulator.specs.Log.{address_word, value_word, entry_of, is_full, words, Written, written, written_of}
 use Rattle.emulator.specs.Parts.{pushed, Logs}

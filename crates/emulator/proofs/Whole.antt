@@ -1,5 +1,5 @@
 -- Laws of the run, the logged run and the step: by their host tests, and as the turns of the loop.
-use Rattle.std.specs.Prelude.{◌≡◌, ℕ, ◌+◌, ◌≤◌, List, [], length, replicate, Result, Ok, Err}
+use Rattle.std.specs.Prelude.{◌≡◌, ℕ, ◌+◌, List, [], length, replicate, Result, Ok, Err}
 use mathlib.Core.Path.{refl, sym, ap, ◌∙◌}
 use native.Mathlib.Nat.{zero-add}
 use native.Mathlib.Omega.{arith}
@@ -7,7 +7,7 @@ use lib.ListN.{length-replicate}
 use borrow.Author.Tests.{eq-eqb, ne_eqb}
 use Rattle.instructions.proofs.Cases.{by_test, if_elim}
 use Rattle.emulator.specs.Core.{is_halted}
-use Rattle.emulator.specs.Log.{Reply, Logged, logged, is_full, written, words, written_of}
+use Rattle.emulator.specs.Log.{Reply, Logged, logged, is_full, written, words}
 use Rattle.emulator.specs.Memory.{Memory, lent}
 use Rattle.emulator.specs.Outcome.{Outcome, stepped, halted, limit, fault, refused, ended, stop_of, refusal_number, answer_of, end_of, uncounted, answered_of}
 use Rattle.emulator.specs.Machine.{Access, none, load, store, stop, Plan, plan_of, settle_of, memory_store, Turn, turn, on_fetch, advanced, carry_out, cycle_of, refusal_of, unmarked, step_of, Ran, ran, next_of, Setting, plain, logging_in, run_until, run_from, RanLogged, ran_logged, in_buffer, run_in, run_of, run_logged_of}

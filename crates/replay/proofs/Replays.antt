@@ -3,18 +3,17 @@ use Rattle.std.specs.Prelude.{◌≡◌, ℕ, zero, suc, ◌+◌, Bool, true, fa
 use mathlib.Core.List.{append-nil, append_assoc}
 use mathlib.Core.Path.{refl, sym, ap, ◌∙◌}
 use native.Mathlib.Omega.{arith}
-use Rattle.instructions.proofs.Cases.{by_test, if_elim, if_both}
+use Rattle.instructions.proofs.Cases.{if_elim, if_both}
 use Rattle.emulator.specs.Core.{is_halted}
-use Rattle.emulator.specs.Log.{read_log, Logged, logged}
+use Rattle.emulator.specs.Log.{read_log, Logged}
 use Rattle.emulator.specs.Memory.{refused_length}
-use Rattle.emulator.specs.Outcome.{Outcome, halted, limit, refused, ended, end_of}
+use Rattle.emulator.specs.Outcome.{Outcome, refused, ended}
 use Rattle.emulator.specs.Machine.{Plan, plan_of, Store, Turn, cycle_of, Ran, ran, is_stepped, next_of, plain, full_in, run_until, run_from}
 use Rattle.emulator.specs.declared.core_record.Core.{Core}
-use Rattle.emulator.specs.declared.cycle.End.{End}
 use Rattle.emulator.specs.declared.refusal.LogEnd.{LogEnd}
 use Rattle.emulator.proofs.Keeps.{Leads, next_leads, run_leads}
 use Rattle.replay.specs.Places.{begins}
-use Rattle.replay.specs.Replay.{Tape, tape, tape_store, same, Replayed, replayed, answer_of, replay_of}
+use Rattle.replay.specs.Replay.{Tape, tape, tape_store, Replayed, replayed, answer_of, replay_of}
 use Rattle.replay.proofs.Tapes.{begins_append, same_is}
 
 -- a log only grows: the log at the end begins with the log by now

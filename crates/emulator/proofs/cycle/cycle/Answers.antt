@@ -1,7 +1,5 @@
 -- `cycle`: a law for each way through it, and what is logged on it.
-use Rattle.std.specs.Prelude.{List, ℕ, ◌≡◌, ◌++◌}
 use mathlib.Core.List.{append-nil, append_assoc}
-use mathlib.Core.Path.{sym, ap}
 use Rattle.std.proofs.lemmas.Result.{err_from_is_err_and}
 use Rattle.emulator.proofs.Cycles.{cycle_stopped, cycle_undecodable, cycle_obeyed}
 use Rattle.emulator.proofs.cycle.cycle.Goals as goal

@@ -1,5 +1,5 @@
 -- `turns`, by the ways through its loop.
-use Rattle.std.proofs.Common.{arith, ◌≤◌}
+use Rattle.std.proofs.Common.{arith}
 use Rattle.emulator.proofs.Runs.{running_start, end_halted, end_limit, end_by, running_step, end_fault}
 use Rattle.emulator.proofs.cycle.turns.Goals as goal
 
