@@ -1,22 +1,17 @@
 -- Laws of the log's buffer.
-use Rattle.std.specs.Prelude.{◌≡◌, ◌⊎◌, ℕ, ◌+◌, ◌-◌, ◌<◌, ◌≤◌, ltb, List, ◌++◌, length, set}
+use Rattle.std.specs.Prelude.{◌≡◌, ◌⊎◌, ℕ, ◌+◌, ◌-◌, ◌<◌, ◌≤◌, ltb, List, ◌++◌, length}
 use mathlib.Core.Logic.{⊎_elim, inl, inr}
 use mathlib.Core.Path.{sym, ap, ◌∙◌}
 use native.Mathlib.Nat.{zero-add}
-use native.Mathlib.Numerals.{add-one}
 use native.Mathlib.Omega.{arith}
 use lib.ListN.{length-append}
 use lib.Seq.{sets, length-sets}
 use borrow.Author.Tests.{ltb-true, ltb-false, lt-ltb}
 use Rattle.instructions.proofs.Cases.{by_test}
-use Rattle.emulator.specs.Log.{address_word, value_word, entry_of, is_full, words, Written, written, written_of}
+use Rattle.emulator.specs.Log.{entry_of, is_full, words, Written, written, written_of}
 use Rattle.emulator.specs.Parts.{pushed, Logs}
 use Rattle.emulator.specs.declared.log.Purpose.{Purpose}
 use Rattle.emulator.proofs.Stores.{sets_append, sets_front}
-
--- two stores are those of an entry
-pub entry_put : (b : List ℕ) (k : ℕ) (p : Purpose) (a w : ℕ) → set (set b k (address_word p a)) (k + 1) (value_word w) ≡ sets b k (entry_of p a w)
-entry_put b k p a w = rw add-one
 
 module _ {b₀ b : List ℕ} {k₀ k : ℕ} {l : List ℕ} (h : Logs b₀ k₀ b k l) where
   fits_or_past : (k₀ + length l ≤ length b₀) ⊎ (length b₀ < k₀ + length l)
