@@ -1,189 +1,216 @@
-// One recorded case: a step or a run over 32 words, and what the Rust made of it.
-ghost use Rattle.std.specs.Prelude.{◌<◌, ◌≤◌};
+// One recorded case: what a step or a run over 32 words starts with, and what the Rust made of it.
+ghost use Rattle.std.specs.Prelude.{◌≤◌, ◌+◌};
 
-use emulator::{Answer, Core, End, Stop, step_by_lent};
+use emulator::{Answer, Core, End, Run, Stop, step_by_lent};
 use instructions::{GPR, Register, SPR};
+use std::array;
 
 // Bytes of a case.
-pub const CASE: usize = 222;
+pub const SIZE: usize = 222;
+
+// Words of a case.
+const WORDS: usize = 111;
 
 // Log words that no recorded run needs more of.
 const LOG: usize = 4096;
 
-// Whether this machine answers as the Rust did.
-pub fn replay(case: &[u8; 222]) -> bool {
-    if word(case, 0) == 0 {
-        replay_step(case)
-    } else {
-        replay_run(case)
-    }
+#[derive(Clone, Copy, PartialEq, Eq)]
+struct Memory {
+    words: [u16; 32],
+    marks: [u8; 32],
 }
 
-// A step of a core that is lent, which makes the step of a core by value.
-fn replay_step(case: &[u8; 222]) -> bool {
-    let mut memory = memory_of(case);
-    let mut marks = [mark(case); 32];
-    let s = step_by_lent(core_of(case), &mut memory, &mut marks);
-    let after = s.core;
-    let answer = s.answer;
-    same_answer(answer, case) && same_core(after, case) && same_memory(&memory, &marks, case)
+// The registers and memory at the start or at the end.
+#[derive(Clone, Copy)]
+struct State {
+    gprs: [u16; 8],
+    sprs: [u16; 4],
+    memory: Memory,
 }
 
-fn replay_run(case: &[u8; 222]) -> bool {
-    let mut memory = memory_of(case);
-    let mut marks = [mark(case); 32];
-    let r = core_of(case).run(&mut memory, &mut marks, word(case, 1) as u32);
-    let after = r.core;
-    let end = r.end;
-    r.steps == word(case, 50) as u32
-        && same_end(end, case)
-        && same_core(after, case)
-        && same_memory(&memory, &marks, case)
-        && seen_again(case)
+// How a step or a run comes out: its class, and the number and value of a fault (0 where there is none).
+#[derive(Clone, Copy, PartialEq, Eq)]
+struct Outcome {
+    class: u16,
+    number: u16,
+    value: u16,
 }
 
-// The same run with a log, and its replay: both end as the Rust did.
-fn seen_again(case: &[u8; 222]) -> bool {
-    let mut memory = memory_of(case);
-    let mut marks = [mark(case); 32];
-    let mut log = [0u32; LOG];
-    let limit = word(case, 1) as u32;
-    let r = core_of(case).run_logged(&mut memory, &mut marks, limit, &mut log);
-    let logged = r.logged;
-    let after = r.run.core;
-    let end = r.run.end;
-    r.run.steps == word(case, 50) as u32
-        && same_end(end, case)
-        && same_core(after, case)
-        && same_memory(&memory, &marks, case)
-        && same_replay(case, &log, logged)
+#[derive(Clone, Copy)]
+pub struct Case {
+    is_step: bool,
+    limit: u32,
+    start: State,
+    outcome: Outcome,
+    steps: u32,
+    end: State,
 }
 
-fn same_replay(case: &[u8; 222], log: &[u32], logged: usize) -> bool {
-    if log.len() < logged {
-        return false;
-    }
-    let r = replay::replay(core_of(case), 32, word(case, 1) as u32, &log[..logged]);
-    let after = r.core;
-    let end = r.end;
-    r.steps == word(case, 50) as u32 && same_end(end, case) && same_core(after, case)
+// The words of a case, low byte first.
+fn words_of(bytes: &[u8; SIZE]) -> [u16; WORDS] {
+    array::from_fn(|i| u16::from_le_bytes([bytes[i * 2], bytes[i * 2 + 1]]))
 }
 
-// Word `i` of a case, low byte first.
-fn word(case: &[u8; 222], i: usize) -> u16
-    requires { i < 111 }
+// The words from a place on.
+fn part<const N: usize>(words: &[u16; WORDS], from: usize) -> [u16; N]
+    requires { from + N ≤ 111 }
 {
-    let at = i * 2;
-    wide(case[at]) + wide(case[at + 1]) * 256
+    let mut part = [0; N];
+    part.copy_from_slice(&words[from..from + N]);
+    part
 }
 
-fn wide(byte: u8) -> u16
-    ensures { result ≤ 255 }
-{
-    byte as u16
-}
-
-// The mark that every address starts with.
-fn mark(case: &[u8; 222]) -> u8 {
-    (word(case, 2) % 256) as u8
-}
-
-// The core and the memory that the case starts with.
-fn core_of(case: &[u8; 222]) -> Core {
-    let mut core = Core::new();
-    let mut i: usize = 0;
-    while i < 8 {
-        core = core.write_gpr(GPR::from_low_bits(i as u8), word(case, 3 + i));
-        i += 1;
-    }
-    core = core.write_spr(SPR::IP, word(case, 11));
-    core = core.write_spr(SPR::RP, word(case, 12));
-    core = core.write_spr(SPR::SP, word(case, 13));
-    core.write_spr(SPR::EF, word(case, 14))
-}
-
-fn memory_of(case: &[u8; 222]) -> [u16; 32] {
-    let mut memory = [0u16; 32];
-    let mut i = 0;
-    while i < 32 {
-        memory[i] = word(case, 15 + i);
-        i += 1;
-    }
-    memory
-}
-
-// The classes of a step: 0 stepped, 1 halted, 2 fault. No case is refused.
-fn same_answer(answer: Answer, case: &[u8; 222]) -> bool {
-    match answer {
-        Answer::Stepped => same_outcome(0, 0, 0, case),
-        Answer::Halted => same_outcome(1, 0, 0, case),
-        Answer::Fault(stop) => same_fault(stop, case),
-        Answer::Refused(_) => false,
-    }
-}
-
-// The classes of a run: 0 halted, 1 limit, 2 fault.
-fn same_end(end: End, case: &[u8; 222]) -> bool {
-    match end {
-        End::Halted => same_outcome(0, 0, 0, case),
-        End::Limit => same_outcome(1, 0, 0, case),
-        End::Fault(stop) => same_fault(stop, case),
-        End::Refused(_) => false,
-        End::Log(_) => false,
-    }
-}
-
-fn same_fault(stop: Stop, case: &[u8; 222]) -> bool {
-    let f = stop.fault();
-    same_outcome(2, f.number as u16, f.value, case)
-}
-
-// Whether the case has this class, and this number and value of a fault (0 where there is none).
-fn same_outcome(class: u16, number: u16, value: u16, case: &[u8; 222]) -> bool {
-    class == word(case, 47) && number == word(case, 48) && value == word(case, 49)
-}
-
-fn same_core(core: Core, case: &[u8; 222]) -> bool {
-    let mut i: usize = 0;
-    while i < 8 {
-        if core.read_gpr(GPR::from_low_bits(i as u8)) != word(case, 51 + i) {
-            return false;
+impl State {
+    // The registers and memory from a place on.
+    fn new(words: &[u16; WORDS], from: usize, marks: [u8; 32]) -> Self
+        requires { from + 44 ≤ 111 }
+    {
+        State {
+            gprs: part(words, from),
+            sprs: part(words, from + 8),
+            memory: Memory {
+                words: part(words, from + 12),
+                marks,
+            },
         }
-        i += 1;
     }
-    core.read_spr(SPR::IP) == word(case, 59)
-        && core.read_spr(SPR::RP) == word(case, 60)
-        && core.read_spr(SPR::SP) == word(case, 61)
-        && same_flags(core, word(case, 62))
+
+    fn core(&self) -> Core {
+        let mut core = Core::new();
+        for (n, value) in (0..8).zip(self.gprs) {
+            core = core.write_gpr(GPR::from_low_bits(n), value);
+        }
+        for (n, value) in (0..4).zip(self.sprs) {
+            core = core.write_spr(SPR::from_low_bits(n), value);
+        }
+        core
+    }
+
+    // Whether it has this core, as a whole and by each register that is read.
+    fn has_core(&self, core: Core) -> bool {
+        let [_, _, _, ef] = self.sprs;
+        core == self.core()
+            && (0..8)
+                .zip(self.gprs)
+                .all(|(n, value)| core.read_gpr(GPR::from_low_bits(n)) == value)
+            && (0..4)
+                .zip(self.sprs)
+                .all(|(n, value)| core.read_spr(SPR::from_low_bits(n)) == value)
+            && has_flags(core, ef)
+    }
 }
 
-// Whether the flags are those of this word; the condition changed and changed back leaves the others as they are.
-fn same_flags(core: Core, ef: u16) -> bool {
+// Whether the flags are those of this word; the condition changed and changed back leaves the core as it is.
+fn has_flags(core: Core, ef: u16) -> bool {
     let halted = ef % 2 == 1;
     let cond = ef / 2 % 2 == 1;
     let changed = core.set_cond(!cond);
-    if core.is_halted() != halted {
-        return false;
-    }
-    if core.is_cond_set() != cond {
-        return false;
-    }
-    if changed.is_cond_set() == cond {
-        return false;
-    }
-    changed.set_cond(cond).read_spr(SPR::EF) == ef
+    core.is_halted() == halted
+        && core.is_cond_set() == cond
+        && changed.is_cond_set() != cond
+        && changed.set_cond(cond) == core
 }
 
-fn same_memory(memory: &[u16; 32], marks: &[u8; 32], case: &[u8; 222]) -> bool {
-    let mut i = 0;
-    while i < 32 {
-        if memory[i] != word(case, 63 + i) {
-            return false;
+impl Outcome {
+    fn ended(class: u16) -> Self {
+        Outcome {
+            class,
+            number: 0,
+            value: 0,
         }
-        if marks[i] != case[190 + i] {
-            return false;
-        }
-        i += 1;
     }
-    true
+
+    fn fault(stop: Stop) -> Self {
+        let fault = stop.fault();
+        Outcome {
+            class: 2,
+            number: fault.number as u16,
+            value: fault.value,
+        }
+    }
+
+    // The classes of a step: 0 stepped, 1 halted, 2 fault. No case is refused.
+    fn of_step(answer: Answer) -> Option<Self> {
+        match answer {
+            Answer::Stepped => Some(Self::ended(0)),
+            Answer::Halted => Some(Self::ended(1)),
+            Answer::Fault(stop) => Some(Self::fault(stop)),
+            Answer::Refused(_) => None,
+        }
+    }
+
+    // The classes of a run: 0 halted, 1 limit, 2 fault.
+    fn of_run(end: End) -> Option<Self> {
+        match end {
+            End::Halted => Some(Self::ended(0)),
+            End::Limit => Some(Self::ended(1)),
+            End::Fault(stop) => Some(Self::fault(stop)),
+            End::Refused(_) | End::Log(_) => None,
+        }
+    }
+}
+
+impl Case {
+    pub fn new(bytes: &[u8; SIZE]) -> Self {
+        let words = words_of(bytes);
+        let mut marks = [0; 32];
+        marks.copy_from_slice(&bytes[190..]);
+        Case {
+            is_step: words[0] == 0,
+            limit: words[1] as u32,
+            start: State::new(&words, 3, [(words[2] % 256) as u8; 32]),
+            outcome: Outcome {
+                class: words[47],
+                number: words[48],
+                value: words[49],
+            },
+            steps: words[50] as u32,
+            end: State::new(&words, 51, marks),
+        }
+    }
+
+    // Whether this machine answers as the Rust did.
+    pub fn is_met(&self) -> bool {
+        if self.is_step {
+            self.steps_so()
+        } else {
+            self.runs_so() && self.is_seen_again()
+        }
+    }
+
+    // A step of a core that is lent, which makes the step of a core by value.
+    fn steps_so(&self) -> bool {
+        let mut memory = self.start.memory;
+        let step = step_by_lent(self.start.core(), &mut memory.words, &mut memory.marks);
+        Outcome::of_step(step.answer) == Some(self.outcome)
+            && self.end.has_core(step.core)
+            && memory == self.end.memory
+    }
+
+    fn runs_so(&self) -> bool {
+        let mut memory = self.start.memory;
+        let core = self.start.core();
+        let run = core.run(&mut memory.words, &mut memory.marks, self.limit);
+        self.is_run(run) && memory == self.end.memory
+    }
+
+    // The same run with a log, and its replay: both end as the Rust did.
+    fn is_seen_again(&self) -> bool {
+        let mut memory = self.start.memory;
+        let mut log = [0; LOG];
+        let core = self.start.core();
+        let logged = core.run_logged(&mut memory.words, &mut memory.marks, self.limit, &mut log);
+        let Some(log) = log.get(..logged.logged) else {
+            return false;
+        };
+        self.is_run(logged.run)
+            && memory == self.end.memory
+            && self.is_run(replay::replay(core, memory.words.len(), self.limit, log))
+    }
+
+    fn is_run(&self, run: Run) -> bool {
+        run.steps == self.steps
+            && Outcome::of_run(run.end) == Some(self.outcome)
+            && self.end.has_core(run.core)
+    }
 }

@@ -4,15 +4,18 @@
 
 mod case;
 
-use crate::case::{CASE, replay};
 use std::io;
 use std::io::{ErrorKind, Read};
 
-// Reads one case, and answers whether the input had a whole one.
-fn read_case<R: Read>(reader: &mut R, case: &mut [u8; CASE]) -> io::Result<bool> {
-    match reader.read_exact(case) {
-        Ok(()) => Ok(true),
-        Err(e) if e.kind() == ErrorKind::UnexpectedEof => Ok(false),
+// Cases of an input, at most.
+const MOST: u64 = 10000;
+
+// Reads the next case, if the input has another whole one.
+fn read_case<R: Read>(reader: &mut R) -> io::Result<Option<case::Case>> {
+    let mut bytes = [0; case::SIZE];
+    match reader.read_exact(&mut bytes) {
+        Ok(()) => Ok(Some(case::Case::new(&bytes))),
+        Err(e) if e.kind() == ErrorKind::UnexpectedEof => Ok(None),
         Err(e) => Err(e),
     }
 }
@@ -20,15 +23,14 @@ fn read_case<R: Read>(reader: &mut R, case: &mut [u8; CASE]) -> io::Result<bool>
 fn main(rt: HostRuntime) -> io::Result<()> {
     let mut cases: u64 = 0;
     let mut wrong: u64 = 0;
-    while cases < 10000 {
-        let mut case = [0u8; CASE];
-        if !read_case(&mut rt.stdin(), &mut case)? {
+    for _ in 0..MOST {
+        let Some(case) = read_case(&mut rt.stdin())? else {
             break;
-        }
-        if !replay(&case) {
-            wrong = std::num::wrapping_add_u64(wrong, 1);
-        }
+        };
         cases += 1;
+        if !case.is_met() {
+            wrong += 1;
+        }
     }
     println!(rt; "{cases} cases, {wrong} wrong")
 }

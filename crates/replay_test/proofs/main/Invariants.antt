@@ -1,9 +1,6 @@
--- `main` ends: at most 10,000 cases are read.
-use Rattle.std.proofs.Common.{◌-◌, ◌≤◌}
+-- No more cases were read than the loop had turns, and no more were wrong.
+use Rattle.std.proofs.Common.{◌≤◌}
 use Rattle.replay_test.proofs.main.Given as goal
 
-abbrev pub invariant-loop-cases : goal.invariant-loop-cases
-invariant-loop-cases l = l.cases ≤ 10000
-
-abbrev pub decreases-loop-cases : goal.decreases-loop-cases
-decreases-loop-cases l = 10000 - l.cases
+abbrev pub invariant-loop : goal.invariant-loop
+invariant-loop l = record { cases : l.cases ≤ l.counter; wrong : l.wrong ≤ l.counter }
