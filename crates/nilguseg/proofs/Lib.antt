@@ -1,3 +1,1 @@
-pub mod CallLaws
-pub mod CoreLaws
 pub mod NumberLaws
