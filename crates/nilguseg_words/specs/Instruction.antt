@@ -1,6 +1,7 @@
 -- The numbers of an instruction for a host: its kind from 0 to 42 in the order of the enum, and its operands. Documents name no such
 -- numbers; a register has its own (document 01, Records).
-use Rattle.std.specs.Prelude.{ℕ, ◌+◌, ◌*◌, ◌^◌, List, [], ◌∷◌, ◌≡◌, get_or, Option, Some, None, option_map, option_and_then, Result, Ok, Err}
+use Rattle.std.specs.Prelude.{ℕ, ◌+◌, ◌*◌, ◌^◌, List, [], ◌∷◌, ◌≡◌, get_or, Option, Some, None, option_map, Result, Ok, Err}
+use Rattle.std.specs.Option.{option_zip}
 use Rattle.instructions.specs.Decoding.{undecodable}
 use Rattle.instructions.specs.Encoding.{encode_of}
 use Rattle.instructions.specs.Reg.{gpr_number, gpr_at, spr_number, spr_at, dr_number, dr_at, register_of}
@@ -106,7 +107,7 @@ abbrev pub one : {A : Type 0} → (ℕ → Option A) → (A → Instruction) →
 one x f a b = option_map f (x a)
 
 abbrev pub two : {A B : Type 0} → (ℕ → Option A) → (ℕ → Option B) → (A → B → Instruction) → Kind
-two x y f a b = option_and_then (λ p. option_map (f p) (y b)) (x a)
+two x y f a b = option_map (λ p. f p.0 p.1) (option_zip (x a) (y b))
 
 abbrev pub kinds : List Kind
 kinds =

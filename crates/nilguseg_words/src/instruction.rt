@@ -1,21 +1,29 @@
 // The numbers of the instructions' kinds and operands.
 ghost use Rattle.std.specs.Prelude.{◌≡◌};
+ghost use Rattle.std.specs.Option.{option_zip};
 ghost use Rattle.instructions.specs.Reg.{gpr_number, register_of};
 ghost use Rattle.nilguseg_words.specs.Instruction.{numbers, numbers_of, packed, instruction_of};
 
 use instructions::{GPR, Instruction, Register};
 
-// The number of a register, and the register of a number, if there is one.
+// The number of a register.
 fn number<R: Register>(reg: R) -> u8
     ensures { result ≡ R.number reg }
 {
     reg.encode() as u8
 }
 
+// The register of a number, and those of two, if there are such.
 fn register<R: Register>(number: u8) -> Option<R>
     ensures { result ≡ register_of R.COUNT R.at number }
 {
     R::decode(number as u16)
+}
+
+fn registers<P: Register, Q: Register>(first: u8, second: u8) -> Option<(P, Q)>
+    ensures { result ≡ option_zip (register_of P.COUNT P.at first) (register_of Q.COUNT Q.at second) }
+{
+    register(first).zip(register(second))
 }
 
 fn numbers(kind: u8, first: u8, second: u8) -> u32
@@ -104,14 +112,14 @@ pub fn instruction(kind: u8, first: u8, second: u8) -> Option<Instruction>
         // Core
         0 => Instruction::Nop,
         1 => Instruction::Hlt,
-        2 => Instruction::Mov {
-            dest: register(first)?,
-            src: register(second)?,
-        },
-        3 => Instruction::DMov {
-            dest: register(first)?,
-            src: register(second)?,
-        },
+        2 => {
+            let (dest, src) = registers(first, second)?;
+            Instruction::Mov { dest, src }
+        }
+        3 => {
+            let (dest, src) = registers(first, second)?;
+            Instruction::DMov { dest, src }
+        }
 
         // Immediate loads
         4 => Instruction::Putl {
@@ -124,14 +132,14 @@ pub fn instruction(kind: u8, first: u8, second: u8) -> Option<Instruction>
         },
 
         // Memory
-        6 => Instruction::Read {
-            val: register(first)?,
-            addr: register(second)?,
-        },
-        7 => Instruction::Write {
-            addr: register(first)?,
-            val: register(second)?,
-        },
+        6 => {
+            let (val, addr) = registers(first, second)?;
+            Instruction::Read { val, addr }
+        }
+        7 => {
+            let (addr, val) = registers(first, second)?;
+            Instruction::Write { addr, val }
+        }
         8 => Instruction::Spread {
             val: register(first)?,
             offset: second,
@@ -140,14 +148,14 @@ pub fn instruction(kind: u8, first: u8, second: u8) -> Option<Instruction>
             offset: first,
             val: register(second)?,
         },
-        10 => Instruction::DRead {
-            val: register(first)?,
-            addr: register(second)?,
-        },
-        11 => Instruction::DWrite {
-            addr: register(first)?,
-            val: register(second)?,
-        },
+        10 => {
+            let (val, addr) = registers(first, second)?;
+            Instruction::DRead { val, addr }
+        }
+        11 => {
+            let (addr, val) = registers(first, second)?;
+            Instruction::DWrite { addr, val }
+        }
         12 => Instruction::Push {
             val: register(first)?,
         },
@@ -156,14 +164,14 @@ pub fn instruction(kind: u8, first: u8, second: u8) -> Option<Instruction>
         },
 
         // Special-purpose registers
-        14 => Instruction::Movso {
-            dest: register(first)?,
-            src: register(second)?,
-        },
-        15 => Instruction::Movsi {
-            dest: register(first)?,
-            src: register(second)?,
-        },
+        14 => {
+            let (dest, src) = registers(first, second)?;
+            Instruction::Movso { dest, src }
+        }
+        15 => {
+            let (dest, src) = registers(first, second)?;
+            Instruction::Movsi { dest, src }
+        }
         16 => Instruction::Spadd {
             val: register(first)?,
         },
@@ -174,34 +182,34 @@ pub fn instruction(kind: u8, first: u8, second: u8) -> Option<Instruction>
         19 => Instruction::Not {
             reg: register(first)?,
         },
-        20 => Instruction::And {
-            reg: register(first)?,
-            val: register(second)?,
-        },
-        21 => Instruction::Booland {
-            reg: register(first)?,
-            val: register(second)?,
-        },
-        22 => Instruction::Or {
-            reg: register(first)?,
-            val: register(second)?,
-        },
-        23 => Instruction::Xor {
-            reg: register(first)?,
-            val: register(second)?,
-        },
-        24 => Instruction::Shl {
-            reg: register(first)?,
-            val: register(second)?,
-        },
-        25 => Instruction::Shr {
-            reg: register(first)?,
-            val: register(second)?,
-        },
-        26 => Instruction::Bitset {
-            reg: register(first)?,
-            idx: register(second)?,
-        },
+        20 => {
+            let (reg, val) = registers(first, second)?;
+            Instruction::And { reg, val }
+        }
+        21 => {
+            let (reg, val) = registers(first, second)?;
+            Instruction::Booland { reg, val }
+        }
+        22 => {
+            let (reg, val) = registers(first, second)?;
+            Instruction::Or { reg, val }
+        }
+        23 => {
+            let (reg, val) = registers(first, second)?;
+            Instruction::Xor { reg, val }
+        }
+        24 => {
+            let (reg, val) = registers(first, second)?;
+            Instruction::Shl { reg, val }
+        }
+        25 => {
+            let (reg, val) = registers(first, second)?;
+            Instruction::Shr { reg, val }
+        }
+        26 => {
+            let (reg, idx) = registers(first, second)?;
+            Instruction::Bitset { reg, idx }
+        }
 
         // General-purpose arithmetic
         27 => Instruction::Neg {
@@ -213,36 +221,36 @@ pub fn instruction(kind: u8, first: u8, second: u8) -> Option<Instruction>
         29 => Instruction::Dec {
             reg: register(first)?,
         },
-        30 => Instruction::Add {
-            reg: register(first)?,
-            val: register(second)?,
-        },
-        31 => Instruction::Sub {
-            reg: register(first)?,
-            val: register(second)?,
-        },
-        32 => Instruction::Mul {
-            reg: register(first)?,
-            val: register(second)?,
-        },
+        30 => {
+            let (reg, val) = registers(first, second)?;
+            Instruction::Add { reg, val }
+        }
+        31 => {
+            let (reg, val) = registers(first, second)?;
+            Instruction::Sub { reg, val }
+        }
+        32 => {
+            let (reg, val) = registers(first, second)?;
+            Instruction::Mul { reg, val }
+        }
 
         // Comparison
         33 => Instruction::Inv,
         34 => Instruction::Eqz {
             reg: register(first)?,
         },
-        35 => Instruction::Eq {
-            left: register(first)?,
-            right: register(second)?,
-        },
-        36 => Instruction::Gt {
-            left: register(first)?,
-            right: register(second)?,
-        },
-        37 => Instruction::Gteq {
-            left: register(first)?,
-            right: register(second)?,
-        },
+        35 => {
+            let (left, right) = registers(first, second)?;
+            Instruction::Eq { left, right }
+        }
+        36 => {
+            let (left, right) = registers(first, second)?;
+            Instruction::Gt { left, right }
+        }
+        37 => {
+            let (left, right) = registers(first, second)?;
+            Instruction::Gteq { left, right }
+        }
 
         // Branching
         38 => Instruction::Jmpoff { offset: first },

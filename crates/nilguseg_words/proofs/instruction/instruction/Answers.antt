@@ -6,11 +6,8 @@ use Rattle.nilguseg_words.proofs.instruction.instruction.Goals as goal
 pub returns-in_default : goal.returns-in_default
 returns-in_default c = search no_kind
 
-pub returns-in_err-register-in-2 : goal.returns-in_err-register-in-2
-returns-in_err-register-in-2 c = rw c.in-2.is (search rules)
+pub returns-in_err-dest-in-2 : goal.returns-in_err-dest-in-2
+returns-in_err-dest-in-2 c = rw c.in-2.is (search rules)
 
-pub returns-in_err-register-in-2-2 : goal.returns-in_err-register-in-2-2
-returns-in_err-register-in-2-2 c = rw c.in-2.is (search rules)
-
-pub returns-in_ok-register-in-2-2 : goal.returns-in_ok-register-in-2-2
-returns-in_ok-register-in-2-2 c = rw c.in-2.is (search rules)
+pub returns-in_ok-dest-in-2 : goal.returns-in_ok-dest-in-2
+returns-in_ok-dest-in-2 c = rw c.in-2.is (search rules)
