@@ -35,11 +35,11 @@ pub struct Fault {
     pub value: u16,
 }
 
-impl Stop {
-    pub fn fault(self) -> Fault
-        ensures { stop_of self ≡ fault result.number result.value }
-    {
-        match self {
+impl From<Stop> for Fault {
+    ghost from_gives = { λ s f. stop_of s ≡ fault f.number f.value };
+
+    fn from(stop: Stop) -> Fault {
+        match stop {
             Stop::Undecodable(value) => Fault { number: 10, value },
             Stop::OutOfRange(value) => Fault { number: 11, value },
             Stop::Decimal(value) => Fault { number: 12, value },

@@ -5,7 +5,7 @@ ghost use Rattle.line.specs.Line.{fields, state_of, refused_line, end_line, shee
 ghost use Rattle.line.specs.Put.{Put, AtFront};
 
 use crate::put::{put_byte, put_field, put_fields, put_word};
-use emulator::{End, Run};
+use emulator::{End, Fault, Run};
 use sheet::{Loaded, Written, load_sheet, records};
 
 // Puts what a run leaves, and the line feed: at most 84 bytes.
@@ -47,7 +47,7 @@ fn put_run(out: &mut [u8; 128], run: Run) -> usize
             put_state(out, at, run)
         }
         End::Fault(stop) => {
-            let fault = stop.fault();
+            let fault = Fault::from(stop);
             let stopped = [fault.number as u16, fault.value];
             let word = put_word(out, b"fault");
             let at = put_fields(out, word, &stopped);

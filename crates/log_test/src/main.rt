@@ -2,7 +2,7 @@
 // shorter, and with one word changed.
 #![tactic(auto)]
 
-use emulator::{Core, End, LoggedRun, Run};
+use emulator::{Core, End, Fault, LoggedRun, Run};
 use replay::replay;
 use std::{fmt, io};
 
@@ -23,7 +23,7 @@ impl fmt::Display for Shown {
             End::Halted => write!(f, "halted"),
             End::Limit => write!(f, "limit"),
             End::Fault(stop) => {
-                let fault = stop.fault();
+                let fault = Fault::from(stop);
                 write!(f, "fault {} {}", fault.number, fault.value)
             }
             End::Refused(refusal) => write!(f, "refused {}", refusal.number()),

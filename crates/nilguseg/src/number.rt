@@ -3,7 +3,7 @@ ghost use Rattle.std.specs.Prelude.{◌≡◌};
 ghost use Rattle.emulator.specs.Outcome.{answer_of, end_of};
 ghost use Rattle.nilguseg.specs.Host.{answered, outcome_number, loaded_number, written_number, order_number};
 
-use emulator::{Answer, End};
+use emulator::{Answer, End, Fault};
 use sheet::{Loaded, Written};
 use std::cmp::Ordering;
 
@@ -20,7 +20,7 @@ pub fn end_number(end: End) -> u32
         End::Halted => number(1, 0, 0),
         End::Limit => number(2, 0, 0),
         End::Fault(stop) => {
-            let fault = stop.fault();
+            let fault = Fault::from(stop);
             number(3, fault.number, fault.value)
         }
         End::Refused(refusal) => number(4, refusal.number(), 0),

@@ -1,7 +1,7 @@
 // One recorded case: what a step or a run over 32 words starts with, and what the Rust made of it.
 ghost use Rattle.std.specs.Prelude.{◌≤◌, ◌+◌};
 
-use emulator::{Answer, Core, End, Run, Stop, step_by_lent};
+use emulator::{Answer, Core, End, Fault, Run, Stop, step_by_lent};
 use instructions::{GPR, Register, SPR};
 use std::array;
 
@@ -121,7 +121,7 @@ impl Outcome {
     }
 
     fn fault(stop: Stop) -> Self {
-        let fault = stop.fault();
+        let fault = Fault::from(stop);
         Outcome {
             class: 2,
             number: fault.number as u16,
