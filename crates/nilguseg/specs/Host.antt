@@ -60,9 +60,12 @@ call n ls = record { answer = n; lists = ls }
 abbrev pub step_call : Turn Memory → Call
 step_call t = call (outcome_number t.outcome) (words_of t.core ∷ t.memory.words ∷ t.memory.marks ∷ [])
 
--- the end from bit 32 on, the steps in bits 31..0
+-- what a run leaves: its end from bit 32 on and the steps in bits 31..0, and the core before the other lists
+abbrev pub ended_call : machine.Outcome → ℕ → Core → List (List ℕ) → Call
+ended_call end steps c others = call (outcome_number end * 2 ^ 32 + steps) (words_of c ∷ others)
+
 abbrev pub run_call : Ran Memory → Call
-run_call t = call (outcome_number t.end * 2 ^ 32 + t.steps) (words_of t.core ∷ t.memory.words ∷ t.memory.marks ∷ [])
+run_call t = ended_call t.end t.steps t.core (t.memory.words ∷ t.memory.marks ∷ [])
 
 abbrev pub load_call : Left → Call
 load_call l = call (loaded_number l.answer) (words_of l.core ∷ l.memory ∷ [])

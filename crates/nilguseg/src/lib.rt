@@ -5,20 +5,30 @@
 ghost use Rattle.std.specs.Prelude.{◌≡◌, [], ◌∷◌};
 ghost use Rattle.emulator.specs.Memory.{lent};
 ghost use Rattle.emulator.specs.Machine.{plan_of, step_of, run_of};
+ghost use Rattle.emulator.specs.Outcome.{end_of};
 ghost use Rattle.order.specs.Order.{order_of, part_of};
 ghost use Rattle.sheet.specs.Load.{load_words_of, load_sheet_of};
 ghost use Rattle.sheet.specs.Write.{write_sheet_of};
-ghost use Rattle.nilguseg.specs.Host.{core_from, call, step_call, run_call, load_call, write_call, order_number, part_call};
+ghost use Rattle.nilguseg.specs.Host.{core_from, call, step_call, ended_call, run_call, load_call, write_call, order_number, part_call};
 
-use crate::number::{loaded_number, order_number, step_number, written_number};
+use crate::core_record::put_core;
+use crate::number::{end_number, loaded_number, order_number, step_number, written_number};
+use emulator::Run;
 use order::{compare, earlier_part};
 use sheet::{load_sheet, load_words, write_sheet};
 
 mod core_record;
 mod number;
 
-pub use core_record::{core_of, put_core};
-pub use number::end_number;
+pub use core_record::core_of;
+
+// Puts back the core that a run leaves, and answers its end, from bit 32 on, and its steps.
+pub fn put_run(run: Run, core: &mut [u16; 12]) -> u64
+    ensures { call result (core.new ∷ []) ≡ ended_call (end_of run.end) run.steps run.core [] }
+{
+    put_core(run.core, core);
+    end_number(run.end) as u64 * 0x100000000 + run.steps as u64
+}
 
 // One step of the core.
 pub fn nilguseg_step(core: &mut [u16; 12], memory: &mut [u16], marks: &mut [u8]) -> u32
@@ -35,11 +45,7 @@ pub fn nilguseg_step(core: &mut [u16; 12], memory: &mut [u16], marks: &mut [u8])
 pub fn nilguseg_run(core: &mut [u16; 12], memory: &mut [u16], marks: &mut [u8], limit: u32) -> u64
     ensures { call result (core.new ∷ memory.new ∷ marks.new ∷ []) ≡ run_call (run_of plan_of (core_from core.old) (lent memory.old marks.old) limit) }
 {
-    let run = core_of(*core).run(memory, marks, limit);
-    let after = run.core;
-    let end = run.end;
-    put_core(after, core);
-    end_number(end) as u64 * 0x100000000 + run.steps as u64
+    put_run(core_of(*core).run(memory, marks, limit), core)
 }
 
 // Loads a plain word list.

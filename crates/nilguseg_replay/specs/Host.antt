@@ -1,8 +1,8 @@
 -- What a host sees of a replay (document 02, CR 2, in the layout of the header).
-use Rattle.std.specs.Prelude.{◌+◌, ◌*◌, ◌^◌, [], ◌∷◌}
-use Rattle.nilguseg.specs.Host.{words_of, outcome_number, Call, call}
+use Rattle.std.specs.Prelude.{[]}
+use Rattle.nilguseg.specs.Host.{Call, ended_call}
 use Rattle.replay.specs.Replay.{Replayed}
 
--- the end from bit 32 on, the steps in bits 31..0, as for a run
+-- as for a run, without memory
 abbrev pub replay_call : Replayed → Call
-replay_call t = call (outcome_number t.end * 2 ^ 32 + t.steps) (words_of t.core ∷ [])
+replay_call t = ended_call t.end t.steps t.core []

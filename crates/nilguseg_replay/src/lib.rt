@@ -8,7 +8,7 @@ ghost use Rattle.nilguseg.specs.Host.{core_from, call};
 ghost use Rattle.nilguseg_replay.specs.Host.{replay_call};
 ghost use Rattle.replay.specs.Replay.{replay_of};
 
-use nilguseg::{core_of, end_number, put_core};
+use nilguseg::{core_of, put_run};
 use replay::replay;
 
 // The run that made the log, seen again: `size` is the length of the memory that it ran on.
@@ -17,8 +17,5 @@ pub extern "C" fn nilguseg_replay(core: &mut [u16; 12], size: usize, limit: u32,
     ensures { call result (core.new ∷ []) ≡ replay_call (replay_of plan_of (core_from core.old) size limit log.now) }
 {
     let run = replay(core_of(*core), size, limit, log);
-    let after = run.core;
-    let end = run.end;
-    put_core(after, core);
-    end_number(end) as u64 * 0x100000000 + run.steps as u64
+    put_run(run, core)
 }
