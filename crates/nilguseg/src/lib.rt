@@ -9,13 +9,13 @@ ghost use Rattle.emulator.specs.Outcome.{end_of};
 ghost use Rattle.order.specs.Order.{order_of, part_of};
 ghost use Rattle.sheet.specs.Load.{load_words_of, load_sheet_of};
 ghost use Rattle.sheet.specs.Write.{write_sheet_of};
-ghost use Rattle.nilguseg.specs.Host.{core_from, call, step_call, ended_call, run_call, load_call, write_call, order_number, part_call};
+ghost use Rattle.nilguseg.specs.Host.{core_from, words_of, call, step_call, ended_call, run_call, loaded_number, load_call, write_call, order_number, part_call};
 
 use crate::core_record::put_core;
 use crate::number::{end_number, loaded_number, order_number, step_number, written_number};
 use emulator::Run;
 use order::{compare, earlier_part};
-use sheet::{load_sheet, load_words, write_sheet};
+use sheet::{Load, load_sheet, load_words, write_sheet};
 
 mod core_record;
 mod number;
@@ -30,15 +30,22 @@ pub fn put_run(run: Run, core: &mut [u16; 12]) -> u64
     end_number(run.end) as u64 * 0x100000000 + run.steps as u64
 }
 
+// Puts back the core that a load leaves, and answers what it comes to.
+fn put_load(load: Load, core: &mut [u16; 12]) -> u32
+    ensures number { result ≡ loaded_number load.answer }
+    ensures core { core.new ≡ words_of load.core }
+{
+    put_core(load.core, core);
+    loaded_number(load.answer)
+}
+
 // One step of the core.
 pub fn nilguseg_step(core: &mut [u16; 12], memory: &mut [u16], marks: &mut [u8]) -> u32
     ensures { call result (core.new ∷ memory.new ∷ marks.new ∷ []) ≡ step_call (step_of plan_of (core_from core.old) (lent memory.old marks.old)) }
 {
     let step = core_of(*core).step(memory, marks);
-    let after = step.core;
-    let answer = step.answer;
-    put_core(after, core);
-    step_number(answer)
+    put_core(step.core, core);
+    step_number(step.answer)
 }
 
 // A run of the core, of at most `limit` steps.
@@ -52,22 +59,14 @@ pub fn nilguseg_run(core: &mut [u16; 12], memory: &mut [u16], marks: &mut [u8], 
 pub fn nilguseg_load_words(core: &mut [u16; 12], words: &[u16], memory: &mut [u16]) -> u32
     ensures { call result (core.new ∷ memory.new ∷ []) ≡ load_call (load_words_of words.now memory.old) }
 {
-    let load = load_words(words, memory);
-    let fresh = load.core;
-    let answer = load.answer;
-    put_core(fresh, core);
-    loaded_number(answer)
+    put_load(load_words(words, memory), core)
 }
 
 // Loads a rule sheet.
 pub fn nilguseg_load_sheet(core: &mut [u16; 12], sheet: &[u32], memory: &mut [u16]) -> u32
     ensures { call result (core.new ∷ memory.new ∷ []) ≡ load_call (load_sheet_of sheet.now memory.old) }
 {
-    let load = load_sheet(sheet, memory);
-    let loaded = load.core;
-    let answer = load.answer;
-    put_core(loaded, core);
-    loaded_number(answer)
+    put_load(load_sheet(sheet, memory), core)
 }
 
 // Writes the rule sheet of a core and memory.
