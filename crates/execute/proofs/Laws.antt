@@ -1,16 +1,9 @@
--- Laws on words: a product fits 32 bits, a mask sets or clears one bit, a mask and a sum replace one byte, and a byte is extended.
-use Rattle.std.proofs.Common.{◌≡◌, ℕ, ◌+◌, ◌-◌, ◌*◌, ◌/◌, ◌%◌, ◌^◌, ◌<◌, ◌≤◌, Bool, sym, ap, ◌∙◌, ap₂, lt_of_le_of_lt, add-zero, le_of_lt, mod-lt, mod-eq_of_lt, add-mul, mul-le-mul_left, mul-lt-mul_of_pos_right, one-mul, arith, pow_pos, pow-add, shl_exact, shr_lt, le-ltb}
-use mathlib.Core.Path.{subst⁻¹}
+-- Laws on words: a mask sets or clears one bit, or replaces the low byte.
+use Rattle.std.proofs.Common.{◌≡◌, ℕ, ◌+◌, ◌-◌, ◌*◌, ◌/◌, ◌%◌, ◌^◌, ◌<◌, sym, ap, ◌∙◌, ap₂, add-zero, mod-lt, mod-eq_of_lt, add-mul, one-mul, arith, pow_pos, pow-add, shl_exact, shr_lt}
 use native.Mathlib.Nat.{max-eq_right}
 use lib.Pow.{split, shr_mod, ones_lt}
-use lib.Bits.{bit_and, bit_or, or_block, or_step, or_zero_r, and_block, and_mask, and_high, or_shifted, or_shifted_r}
-use Rattle.execute.specs.Word.{with_bit, bit, with_low, with_high, sign_extend}
-
--- the product of two numbers of k bits has at most k + k
-pub product : (k : ℕ) {a b : ℕ} → a < 2 ^ k → b < 2 ^ k → a * b < 2 ^ (k + k)
-product k {a} {b} ha hb =
-    subst⁻¹ (λ (n : ℕ). a * b < n) (pow-add 2 k k)
-    (lt_of_le_of_lt (mul-le-mul_left a (le_of_lt hb)) (mul-lt-mul_of_pos_right ha (pow_pos k)))
+use lib.Bits.{bit_and, bit_or, or_block, or_step, or_zero_r, and_block, and_mask, and_high, or_shifted}
+use Rattle.execute.specs.Word.{with_bit, with_low}
 
 -- the word that is 1 shifted by k
 one_at : (k : ℕ) → k < 16 → (1 * 2 ^ k) % 65536 ≡ 2 ^ k
@@ -54,21 +47,8 @@ and_bit_16 n k hn hk =
     let e : 15 - k + 1 + k ≡ 16 = omega arith in
     rw (one_at k hk) ((rw e at (and_bit n (15 - k) k)) hn)
 
--- a bit by whether it is on
-pub bit_by : (a k : ℕ) {v : ℕ} {on b : Bool} → on ≡ b → v ≡ with_bit a k (bit b) → v ≡ with_bit a k (bit on)
-bit_by a k p h = rw p h
-
--- the low byte of a word replaced, and its high byte
+-- the low byte of a word replaced
 pub low_byte : (a b : ℕ) → a < 65536 → b < 256 → bit_or (bit_and a 0xFF00) b ≡ with_low a b
 low_byte a b ha hb =
     ap (λ (x : ℕ). bit_or x b) (and_high a 8 8 ∙ ap (λ (x : ℕ). x * 256) (shr_mod 8 8 ha))
     ∙ or_shifted (a / 256) 8 b hb
-
-pub high_byte : (a b : ℕ) → b < 256 → bit_or (bit_and a 0x00FF) ((b * 256) % 65536) ≡ with_high a b
-high_byte a b hb =
-    let shifted : (b * 256) % 65536 ≡ b * 256 = omega arith in
-    ap₂ bit_or (and_mask a 8) shifted ∙ or_shifted_r b 8 (a % 256) (mod-lt a (omega arith))
-
--- a byte of 128 or more, extended
-pub negative : (b : ℕ) → 128 ≤ b → b < 256 → b + 0xFF00 ≡ sign_extend b
-negative b h l = rw (le-ltb b 128 h) (omega arith)

@@ -39,6 +39,7 @@ pub enum Effect {
 }
 
 // The effect of the instruction `ins`, whose word is `word`, on a core whose ip is already advanced.
+#[tactic(auto, unfolding(crate::specs::Execute::execute_of))]
 pub fn execute(
     ins: Instruction,
     word: u16,

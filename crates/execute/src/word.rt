@@ -6,21 +6,21 @@ ghost use Rattle.execute.specs.Word.{add_word, sub_word, mul_word, has_bit, with
 pub fn add(a: u16, b: u16) -> u16
     ensures { result ≡ add_word a b }
 {
-    std::num::wrapping_add_u16(a, b)
+    a.wrapping_add(b)
 }
 
 // a - b, modulo 65,536.
 pub fn sub(a: u16, b: u16) -> u16
     ensures { result ≡ sub_word a b }
 {
-    std::num::wrapping_sub_u16(a, b)
+    a.wrapping_sub(b)
 }
 
-// a * b, modulo 65,536. The whole product fits 32 bits.
+// a * b, modulo 65,536.
 pub fn wrapping_mul_u16(a: u16, b: u16) -> u16
     ensures { result ≡ mul_word a b }
 {
-    ((a as u32 * b as u32) % 65536) as u16
+    a.wrapping_mul(b)
 }
 
 // Whether bit k of a is set.
@@ -32,6 +32,7 @@ pub fn has_bit(a: u16, k: u16) -> bool
 }
 
 // Bit k of a set.
+#[tactic(auto, using(crate::proofs::Laws::or_bit))]
 pub fn set_bit(a: u16, k: u16) -> u16
     requires { k < 16 }
     ensures { result ≡ with_bit a k 1 }
@@ -40,6 +41,7 @@ pub fn set_bit(a: u16, k: u16) -> u16
 }
 
 // Bit k of a cleared.
+#[tactic(auto, using(crate::proofs::Laws::and_bit_16))]
 pub fn clear_bit(a: u16, k: u16) -> u16
     requires { k < 16 }
     ensures { result ≡ with_bit a k 0 }
@@ -56,6 +58,7 @@ pub fn put_bit(a: u16, k: u16, on: bool) -> u16
 }
 
 // The low byte replaced.
+#[tactic(auto, using(crate::proofs::Laws::low_byte))]
 pub fn with_low(a: u16, b: u8) -> u16
     ensures { result ≡ with_low a b }
 {
@@ -73,16 +76,12 @@ pub fn with_high(a: u16, b: u8) -> u16
 pub fn sign_extend_u8_to_u16(byte: u8) -> u16
     ensures { result ≡ sign_extend byte }
 {
-    if byte < 128 {
-        byte as u16
-    } else {
-        byte as u16 + 0xFF00
-    }
+    (byte.cast_signed() as i16).cast_unsigned()
 }
 
 // 1 if both are above 0, else 0.
 pub fn bool_and(a: u16, b: u16) -> u16
     ensures { result ≡ bool_and a b }
 {
-    if a > 0 { if b > 0 { 1 } else { 0 } } else { 0 }
+    (a > 0 && b > 0) as u16
 }

@@ -5,7 +5,7 @@ ghost use Rattle.std.specs.Prelude.{◌≡◌, ◌<◌, ◌≤◌};
 ghost use Rattle.opcode.specs.Opcode.{single_of, general_of, general_or_decimal_of, paired_of, memory_of, moves_of, pointer_of, stack_of, slots_of, ands_of, unary_of, zero_of, calls_of, opcode_of};
 
 // The kind of an instruction, or that a word is undecodable. One flat enum, so that it takes one byte.
-#[derive(Clone, Copy)]
+#[derive(Clone, Copy, Debug, PartialEq, Eq)]
 pub enum InstructionOpcode {
     Undecodable,
 

@@ -90,6 +90,7 @@ impl Instruction {
         }
     }
 
+    #[tactic(auto, unfolding(crate::specs::Decoding::decode_of))]
     pub fn decode(bits: u16) -> Result<Instruction, Undecodable>
         ensures { result ≡ decode_of bits }
     {

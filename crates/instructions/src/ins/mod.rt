@@ -3,6 +3,7 @@ use crate::reg::{DR, GPR, SPR};
 
 pub mod encoding;
 
+// `Debug` and `PartialEq` are not derived: their proofs take longer than those of the whole crate.
 #[derive(Clone, Copy)]
 pub enum Instruction {
     // Core
