@@ -309,6 +309,7 @@ fn single(lo: u8, opcode: InstructionOpcode) -> InstructionOpcode
 
 // General registers at p and q, 0ppp0qqq. One test for both bits, so that the compiler leads each opcode straight to its instruction
 // (docs/PERFORMANCE.md).
+#[tactic(auto, using(crate::proofs::Masks::uppers))]
 fn paired(lo: u8, opcode: InstructionOpcode) -> InstructionOpcode
     ensures { result ≡ paired_of opcode lo }
 {
