@@ -1,8 +1,6 @@
 // Runs sheets and other inputs through `line_of`, and prints each line after its label.
 #![tactic(auto)]
 
-ghost use Rattle.std.specs.Prelude.{◌*◌, ◌≤◌, ◌≡◌, length, take};
-
 use line::line_of;
 use std::io;
 
@@ -66,40 +64,21 @@ const COUNT_FIRST: [u32; 3] = [0x20000001, 0xF0000000, 0x00000000];
 
 // Prints the line of an input after its label.
 fn show(rt: &impl Print, label: &[u8], input: &[u8]) -> io::Result<()> {
-    let mut out = [0u8; 128];
-    let length = line_of(input, &mut out);
     rt.write_all(label)?;
     rt.write_all(b": ")?;
-    rt.write_all(&out[..length])
-}
-
-// Puts the records into `bytes`, low byte first, and answers how many bytes they take.
-fn put_sheet(sheet: &[u32], bytes: &mut [u8]) -> usize
-    requires { length sheet.now * 4 ≤ length bytes.old }
-    ensures { (result ≤ length bytes.new) × (result ≡ length (take result bytes.new)) }
-{
-    let mut at = 0;
-    let mut i = 0;
-    while i < sheet.len() {
-        let record = sheet[i];
-        bytes[at] = (record % 0x100) as u8;
-        bytes[at + 1] = (record / 0x100 % 0x100) as u8;
-        bytes[at + 2] = (record / 0x10000 % 0x100) as u8;
-        bytes[at + 3] = (record / 0x1000000) as u8;
-        at += 4;
-        i += 1;
-    }
-    at
+    rt.write_all(line_of(input).as_bytes())
 }
 
 // Prints the line of a sheet of at most 64 records after its label.
 fn show_sheet(rt: &impl Print, label: &[u8], sheet: &[u32]) -> io::Result<()> {
-    let mut bytes = [0u8; 256];
-    if 64 < sheet.len() {
-        return Ok(());
+    let mut records = [[0u8; 4]; 64];
+    for (bytes, record) in records.iter_mut().zip(sheet) {
+        *bytes = record.to_le_bytes();
     }
-    let size = put_sheet(sheet, &mut bytes);
-    show(rt, label, &bytes[..size])
+    match records.get(..sheet.len()) {
+        Some(records) => show(rt, label, records.as_flattened()),
+        None => Ok(()),
+    }
 }
 
 fn show_ends(rt: &impl Print) -> io::Result<()> {
@@ -134,28 +113,17 @@ fn show_refusals(rt: &impl Print) -> io::Result<()> {
     show_sheet(rt, b"count first", &COUNT_FIRST)
 }
 
-// 8,191 word records of nop and their end record, with room for one record more.
-fn nops() -> [u8; 32772]
-    ensures { 32772 ≡ length result }
-{
-    let mut bytes = [0u8; 32772];
-    let mut at = 3;
-    while at < 32764 {
-        bytes[at] = 0x20;
-        at += 4;
-    }
-    bytes[32764] = 0xFF;
-    bytes[32765] = 0x1F;
-    bytes[32767] = 0xF0;
-    bytes
-}
+// Word records of nop.
+const NOP: u32 = 0x20000000;
+// The end record of 8,191 of them.
+const NOPS_END: u32 = 0xF0001FFF;
 
 // Prints the line of the first `count` bytes after its label.
 fn show_first(rt: &impl Print, label: &[u8], bytes: &[u8], count: usize) -> io::Result<()> {
-    if count <= bytes.len() {
-        show(rt, label, &bytes[..count])?;
+    match bytes.get(..count) {
+        Some(bytes) => show(rt, label, bytes),
+        None => Ok(()),
     }
-    Ok(())
 }
 
 fn show_short(rt: &impl Print) -> io::Result<()> {
@@ -168,11 +136,15 @@ fn show_short(rt: &impl Print) -> io::Result<()> {
 }
 
 fn show_long(rt: &impl Print) -> io::Result<()> {
-    let bytes = nops();
-    show_first(rt, b"32764 bytes", &bytes, 32764)?;
-    show_first(rt, b"32768 bytes", &bytes, 32768)?;
-    show_first(rt, b"32769 bytes", &bytes, 32769)?;
-    show_first(rt, b"32772 bytes", &bytes, 32772)
+    // 8,191 words and their end, with room for one record more
+    let mut records = [NOP.to_le_bytes(); 8193];
+    records[8191] = NOPS_END.to_le_bytes();
+    records[8192] = [0; 4];
+    let bytes = records.as_flattened();
+    show_first(rt, b"32764 bytes", bytes, 32764)?;
+    show_first(rt, b"32768 bytes", bytes, 32768)?;
+    show_first(rt, b"32769 bytes", bytes, 32769)?;
+    show_first(rt, b"32772 bytes", bytes, 32772)
 }
 
 fn main(rt: HostRuntime) -> io::Result<()> {

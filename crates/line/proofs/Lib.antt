@@ -1,4 +1,3 @@
 pub mod DecimalLaws
-pub mod PutLaws
 pub mod LineLaws
 pub mod Examples

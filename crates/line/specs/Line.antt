@@ -1,12 +1,14 @@
 -- The line that `berth` prints (document 01, the program).
-use Rattle.std.specs.Prelude.{ℕ, List, [], ◌∷◌, ◌++◌, eqb, replicate, if◌then◌else◌}
+use Rattle.std.specs.Prelude.{ℕ, Result, Ok, Err, List, [], ◌∷◌, ◌++◌, replicate}
 use Rattle.emulator.specs.declared.core_record.Core.{Core}
 use Rattle.emulator.specs.Memory.{Memory, lent}
-use Rattle.emulator.specs.Outcome.{Outcome, stepped, halted, limit, fault, refused, ended}
+use Rattle.emulator.specs.Outcome.{Outcome, stepped, halted, limit, fault, refused, ended, end_of}
 use Rattle.emulator.specs.Machine.{plan_of, Ran, run_of}
-use Rattle.sheet.specs.declared.load.Loaded.{Loaded}
+use Rattle.emulator.specs.declared.core_record.Run.{Run}
+use Rattle.sheet.specs.declared.refusal.SheetRefusal.{SheetRefusal}
+use Rattle.sheet.specs.Refusal.{sheet_refusal_number}
 use Rattle.sheet.specs.Load.{Left, load_sheet_of}
-use Rattle.sheet.specs.Input.{records_of, input_refusal}
+use Rattle.sheet.specs.Input.{input_records}
 use Rattle.line.specs.Decimal.{decimal_of}
 
 -- the words `halted`, `limit`, `fault` and `refused`
@@ -54,10 +56,15 @@ end_line (ended n) steps c = []
 abbrev pub ran_line : Ran Memory → List ℕ
 ran_line t = end_line t.end t.steps t.core
 
+-- the same of the code's answer, which may be a refusal
+abbrev pub run_line : Result Run SheetRefusal → List ℕ
+run_line (Ok r) = end_line (end_of r.end) r.steps r.core
+run_line (Err r) = refused_line (sheet_refusal_number r)
+
 -- a sheet loaded: its run, with limit 1,000,000
-abbrev pub loaded_line : Loaded → Core → List ℕ → List ℕ
-loaded_line Loaded.Done c words = ran_line (run_of plan_of c (lent words (replicate 32768 0)) 1000000)
-loaded_line (Loaded.Refused n) c words = refused_line n
+abbrev pub loaded_line : Result (Unit {0}) SheetRefusal → Core → List ℕ → List ℕ
+loaded_line (Ok u) c words = ran_line (run_of plan_of c (lent words (replicate 32768 0)) 1000000)
+loaded_line (Err r) c words = refused_line (sheet_refusal_number r)
 
 abbrev pub left_line : Left → List ℕ
 left_line l = loaded_line l.answer l.core l.memory
@@ -67,5 +74,9 @@ unfoldable pub sheet_line : List ℕ → List ℕ
 sheet_line records = left_line (load_sheet_of records (replicate 32768 0))
 
 -- the line of an input: that of the sheet that its records make
+abbrev pub input_line : Result (List ℕ) SheetRefusal → List ℕ
+input_line (Ok records) = sheet_line records
+input_line (Err r) = refused_line (sheet_refusal_number r)
+
 unfoldable pub line_of : List ℕ → List ℕ
-line_of input = if eqb (input_refusal input) 0 then sheet_line (records_of input) else refused_line (input_refusal input)
+line_of input = input_line (input_records input)

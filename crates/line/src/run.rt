@@ -1,85 +1,95 @@
 // From the input's bytes to the line.
-ghost use Rattle.std.specs.Prelude.{[], ◌∷◌, ◌++◌, ◌≤◌};
-ghost use Rattle.emulator.specs.Outcome.{end_of};
-ghost use Rattle.line.specs.Line.{fields, state_of, refused_line, end_line, sheet_line, line_of};
-ghost use Rattle.line.specs.Put.{Put, AtFront};
+ghost use Rattle.std.specs.Prelude.{◌≡◌, [], ◌∷◌, ◌++◌, ◌≤◌, length};
+ghost use Rattle.line.specs.Line.{fields, state_of, refused_line, run_line, sheet_line, line_of};
 
-use crate::put::{put_byte, put_field, put_fields, put_word};
+use crate::line::Line;
 use emulator::{End, Fault, Run};
-use sheet::{Loaded, Written, load_sheet, records};
+use sheet::{SheetRefusal, load_sheet, records};
 
-// Puts what a run leaves, and the line feed: at most 84 bytes.
-fn put_state(out: &mut [u8; 128], at: usize, run: Run) -> usize
-    requires { at ≤ 44 }
-    ensures put { Put out.old out.new at result (fields (state_of run.steps run.core) ++ 10 ∷ []) }
-    ensures upper_bound { result ≤ 128 }
+// Pushes what a run leaves, and the line feed: at most 84 bytes.
+#[tactic(auto, using(crate::proofs::LineLaws::state_laws), unfolding(crate::specs::Line::fields))]
+fn push_state(line: &mut Line, run: Run)
+    requires { length line.old ≤ 44 }
+    ensures { line.new ≡ line.old ++ (fields (state_of run.steps run.core) ++ 10 ∷ []) }
 {
     let core = run.core;
-    let special = [core.ip, core.rp, core.sp, core.ef];
-    let general = core.gprs;
-    let counted = put_field(out, at, run.steps);
-    let specials = put_fields(out, counted, &special);
-    let generals = put_fields(out, specials, &general);
-    put_byte(out, generals, b'\n')
+    line.push_field(run.steps);
+    line.push_fields(&[core.ip, core.rp, core.sp, core.ef]);
+    line.push_fields(&core.gprs);
+    line.push(b'\n');
 }
 
-// Puts `refused` and the number.
-fn put_refused(out: &mut [u8; 128], number: u8) -> usize
-    ensures { AtFront out.old out.new result (refused_line number) }
+// `refused` and the number.
+#[tactic(auto, using(crate::proofs::LineLaws::field_laws), unfolding(crate::specs::Line::row, crate::specs::Line::fields))]
+fn refused_line(number: u8) -> Line
+    ensures { result ≡ refused_line number }
 {
-    let at = put_word(out, b"refused");
-    let past = put_field(out, at, number as u32);
-    put_byte(out, past, b'\n')
+    let mut line = Line::new();
+    line.push_word(b"refused");
+    line.push_field(u32::from(number));
+    line.push(b'\n');
+    line
 }
 
-// Puts the line of a run.
-fn put_run(out: &mut [u8; 128], run: Run) -> usize
-    ensures { AtFront out.old out.new result (end_line (end_of run.end) run.steps run.core) }
+// The line of a run.
+#[tactic(auto, unfolding(crate::specs::Line::end_line, crate::specs::Line::row, crate::specs::Line::fields))]
+fn ran_line(run: Run) -> Line
+    ensures { result ≡ run_line (Ok run) }
 {
-    let end = run.end;
-    match end {
+    let mut line = Line::new();
+    match run.end {
         End::Halted => {
-            let at = put_word(out, b"halted");
-            put_state(out, at, run)
+            line.push_word(b"halted");
+            push_state(&mut line, run);
         }
         End::Limit => {
-            let at = put_word(out, b"limit");
-            put_state(out, at, run)
+            line.push_word(b"limit");
+            push_state(&mut line, run);
         }
         End::Fault(stop) => {
             let fault = Fault::from(stop);
-            let stopped = [fault.number as u16, fault.value];
-            let word = put_word(out, b"fault");
-            let at = put_fields(out, word, &stopped);
-            put_state(out, at, run)
+            line.push_word(b"fault");
+            line.push_fields(&[u16::from(fault.number), fault.value]);
+            push_state(&mut line, run);
         }
-        End::Refused(refusal) => put_refused(out, refusal.number()),
-        End::Log(_) => 0,
+        End::Refused(refusal) => {
+            return refused_line(refusal.number());
+        }
+        // no run here has a log
+        End::Log(_) => {}
     }
+    line
 }
 
-// Loads the sheet, runs it, and puts its line.
-fn put_sheet(out: &mut [u8; 128], sheet: &[u32]) -> usize
-    ensures { AtFront out.old out.new result (sheet_line sheet.now) }
+// Loads the sheet and runs it.
+#[tactic(auto, unfolding(crate::specs::Line::sheet_line))]
+fn run_sheet(sheet: &[u32]) -> Result<Run, SheetRefusal>
+    ensures { run_line result ≡ sheet_line sheet.now }
 {
     let mut memory = [0u16; 32768];
     let mut marks = [0u8; 32768];
     let load = load_sheet(sheet, &mut memory);
-    let core = load.core;
-    let answer = load.answer;
-    match answer {
-        Loaded::Refused(number) => put_refused(out, number),
-        Loaded::Done => put_run(out, core.run(&mut memory, &mut marks, 1000000)),
-    }
+    load.answer?;
+    Ok(load.core.run(&mut memory, &mut marks, 1000000))
 }
 
-// Puts the line of the input's bytes at the front of `out`, and answers its length.
-pub fn line_of(input: &[u8], out: &mut [u8; 128]) -> usize
-    ensures { AtFront out.old out.new result (line_of input.now) }
+// The same with the sheet that the input is.
+#[tactic(auto, unfolding(crate::specs::Line::line_of))]
+fn run_input(input: &[u8]) -> Result<Run, SheetRefusal>
+    ensures { run_line result ≡ line_of input.now }
 {
     let mut sheet = [0u32; 8192];
-    match records(input, &mut sheet) {
-        Written::Refused(number) => put_refused(out, number),
-        Written::Records(count) => put_sheet(out, &sheet[..count]),
+    let count = records(input, &mut sheet)?;
+    run_sheet(&sheet[..count])
+}
+
+// The line of the input's bytes.
+#[tactic(auto, unfolding(crate::specs::Line::line_of))]
+pub fn line_of(input: &[u8]) -> Line
+    ensures { result ≡ line_of input.now }
+{
+    match run_input(input) {
+        Ok(run) => ran_line(run),
+        Err(refusal) => refused_line(refusal.number()),
     }
 }

@@ -1,13 +1,13 @@
 -- What a host sees of a call: a number, and lists of numbers that it lent (document 01, Stops and Records, and
 -- document 02, CR 1, in the layout of the header).
-use Rattle.std.specs.Prelude.{ℕ, ◌+◌, ◌*◌, ◌^◌, List, [], ◌∷◌, ◌++◌, take, slice_index}
+use Rattle.std.specs.Prelude.{ℕ, Result, Ok, Err, ◌+◌, ◌*◌, ◌^◌, List, [], ◌∷◌, ◌++◌, take, slice_index}
 use Rattle.emulator.specs.declared.core_record.Core.{Core}
 use Rattle.emulator.specs.Core.{core_of}
 use Rattle.emulator.specs.Memory.{Memory}
 use Rattle.emulator.specs.Machine.{Turn, Ran}
 use Rattle.emulator.specs.Outcome as machine
-use Rattle.sheet.specs.declared.load.Loaded.{Loaded}
-use Rattle.sheet.specs.declared.write.Written.{Written}
+use Rattle.sheet.specs.declared.refusal.SheetRefusal.{SheetRefusal}
+use Rattle.sheet.specs.Refusal.{sheet_refusal_number}
 use Rattle.sheet.specs.Load.{Left}
 use Rattle.sheet.specs.Write.{Wrote}
 use Rattle.std.specs.declared.cmp.Ordering.{Ordering}
@@ -34,14 +34,14 @@ outcome_number (machine.refused n) = answered 4 n 0
 outcome_number (machine.ended n) = answered 5 n 0
 
 -- a load: 0 for what is done, or the number of the refusal
-abbrev pub loaded_number : Loaded → ℕ
-loaded_number Loaded.Done = 0
-loaded_number (Loaded.Refused n) = n
+abbrev pub loaded_number : Result (Unit {0}) SheetRefusal → ℕ
+loaded_number (Ok u) = 0
+loaded_number (Err r) = sheet_refusal_number r
 
 -- a written sheet: the number of records, or that of the refusal from bit 32 on
-abbrev pub written_number : Written → ℕ
-written_number (Written.Records n) = n
-written_number (Written.Refused n) = n * 2 ^ 32
+abbrev pub written_number : Result ℕ SheetRefusal → ℕ
+written_number (Ok n) = n
+written_number (Err r) = sheet_refusal_number r * 2 ^ 32
 
 -- a comparison: which of two lists comes first
 abbrev pub order_number : Ordering → ℕ

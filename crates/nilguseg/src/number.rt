@@ -4,7 +4,7 @@ ghost use Rattle.emulator.specs.Outcome.{answer_of, end_of};
 ghost use Rattle.nilguseg.specs.Host.{answered, outcome_number, loaded_number, written_number, order_number};
 
 use emulator::{Answer, End, Fault};
-use sheet::{Loaded, Written};
+use sheet::SheetRefusal;
 use std::cmp::Ordering;
 
 fn number(how: u8, number: u8, value: u16) -> u32
@@ -40,21 +40,21 @@ pub fn step_number(answer: Answer) -> u32
     }
 }
 
-pub fn loaded_number(answer: Loaded) -> u32
+pub fn loaded_number(answer: Result<(), SheetRefusal>) -> u32
     ensures { result ≡ loaded_number answer }
 {
     match answer {
-        Loaded::Done => 0,
-        Loaded::Refused(test) => test as u32,
+        Ok(()) => 0,
+        Err(refusal) => refusal.number() as u32,
     }
 }
 
-pub fn written_number(answer: Written) -> u64
+pub fn written_number(answer: Result<usize, SheetRefusal>) -> u64
     ensures { result ≡ written_number answer }
 {
     match answer {
-        Written::Records(count) => count as u64,
-        Written::Refused(test) => test as u64 * 0x100000000,
+        Ok(count) => count as u64,
+        Err(refusal) => refusal.number() as u64 * 0x100000000,
     }
 }
 

@@ -9,7 +9,8 @@ use Rattle.std.specs.Ordering.{ordering_reverse}
 use Rattle.std.specs.declared.cmp.Ordering.{Ordering}
 use Rattle.emulator.specs.Memory.{refused_length}
 use Rattle.order.specs.Order.{word_in, place_of, order_of, Slice, earlier_part}
-use Rattle.sheet.specs.declared.load.Loaded.{Loaded}
+use Rattle.std.specs.Prelude.{Err}
+use Rattle.sheet.specs.declared.refusal.SheetRefusal.TheVariants.{LongList}
 use Rattle.sheet.specs.Load.{load_words_of}
 use Rattle.order_laws.specs.Claims.{Before, Equal, OneOf, Total, Transitive, TrailingZeros, Equality, LoadAlike, Smaller, FirstDifference}
 use Rattle.order_laws.proofs.Compared.{Same, same_before, end_place, same_all, Compared, compared, decided, turned, replaced, joined, all_same}
@@ -115,7 +116,7 @@ equality =
     }
 
 -- loading
-too_long : (l mem : List ℕ) → refused_length (length mem) ≡ false → ltb (length mem) (length l) ≡ true → (load_words_of l mem).answer ≡ Loaded.Refused 3
+too_long : (l mem : List ℕ) → refused_length (length mem) ≡ false → ltb (length mem) (length l) ≡ true → (load_words_of l mem).answer ≡ Err LongList
 unfolding load_words_of
 too_long l mem r t = rw (r, t)
 

@@ -1,9 +1,9 @@
 -- What is claimed of the order of word lists (document 02, CR 1).
 use Rattle.std.specs.Ordering.{ordering_reverse}
 use Rattle.std.specs.declared.cmp.Ordering.{Ordering}
-use Rattle.std.specs.Prelude.{ℕ, ◌<◌, min, max, List, ◌∷◌, ◌++◌, ◌⊎◌, ◌≡◌, replicate}
+use Rattle.std.specs.Prelude.{ℕ, ◌<◌, min, max, List, ◌∷◌, ◌++◌, ◌⊎◌, ◌≡◌, replicate, Err}
 use Rattle.order.specs.Order.{word_in, place_of, order_of, Slice, earlier_part}
-use Rattle.sheet.specs.declared.load.Loaded.{Loaded}
+use Rattle.sheet.specs.declared.refusal.SheetRefusal.TheVariants.{LongList}
 use Rattle.sheet.specs.Load.{load_words_of}
 
 abbrev pub Before : List ℕ → List ℕ → Type 0
@@ -55,7 +55,7 @@ pub record Equality : Type 0 where
 -- equal lists load alike into every memory where neither gets stop 3
 abbrev pub LoadAlike : Type 0
 LoadAlike =
-    (a b mem : List ℕ) → Equal a b → ((load_words_of a mem).answer ≡ Loaded.Refused 3 → ⊥) → ((load_words_of b mem).answer ≡ Loaded.Refused 3 → ⊥)
+    (a b mem : List ℕ) → Equal a b → ((load_words_of a mem).answer ≡ Err LongList → ⊥) → ((load_words_of b mem).answer ≡ Err LongList → ⊥)
     → load_words_of a mem ≡ load_words_of b mem
 
 -- w is the smaller of the two words at the first place where two lists differ

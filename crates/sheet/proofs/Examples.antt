@@ -4,14 +4,15 @@ use mathlib.Core.List.{List, [], ◌∷◌, map}
 use mathlib.Core.Path.{◌≡◌, refl}
 use Rattle.emulator.specs.Core.{new_core}
 use Rattle.emulator.specs.Memory.{refused_length}
-use Rattle.sheet.specs.declared.load.Loaded.{Loaded}
-use Rattle.sheet.specs.declared.load.Loaded.TheVariants.{Done, Refused}
+use Rattle.std.specs.Prelude.{Result, Ok, Err}
+use Rattle.sheet.specs.declared.refusal.SheetRefusal.{SheetRefusal}
+use Rattle.sheet.specs.declared.refusal.SheetRefusal.TheVariants.{UnknownKind, NonzeroBit, UnknownRegister, PastMemory, NoEnd, AfterEnd, WrongCount}
 use Rattle.sheet.specs.Record.{record_of, register_of, with_register}
 use Rattle.sheet.specs.Load.{left, read_from, load_sheet_of, load_words_of}
-use Rattle.sheet.specs.Write.{presets_from, records_at, stretches_from, nonzero, words_in, sheet_of}
+use Rattle.sheet.specs.Write.{presets_from, records_at, stretches_from, sheet_of}
 
 -- the answer to a sheet in a memory of two words
-abbrev pub answer : List ℕ → Loaded
+abbrev pub answer : List ℕ → Result (Unit {0}) SheetRefusal
 answer sheet = (load_sheet_of sheet (7 ∷ 7 ∷ [])).answer
 
 pub refusals : map answer
@@ -27,23 +28,23 @@ pub refusals : map answer
     ∷ (0x30001234 ∷ [])
     ∷ (0x10000001 ∷ 0x20000001 ∷ 0xF0000001 ∷ [])
     ∷ [])
-    ≡ Refused 20
-    ∷ Refused 21
-    ∷ Refused 21
-    ∷ Refused 21
-    ∷ Refused 22
-    ∷ Refused 23
-    ∷ Refused 26
-    ∷ Refused 25
-    ∷ Refused 24
-    ∷ Refused 24
-    ∷ Done
+    ≡ Err UnknownKind
+    ∷ Err NonzeroBit
+    ∷ Err NonzeroBit
+    ∷ Err NonzeroBit
+    ∷ Err UnknownRegister
+    ∷ Err PastMemory
+    ∷ Err WrongCount
+    ∷ Err AfterEnd
+    ∷ Err NoEnd
+    ∷ Err NoEnd
+    ∷ Ok tt
     ∷ []
 unfolding load_sheet_of refused_length read_from record_of with_register
 refusals = refl
 
 -- the program's example
-pub program : load_sheet_of (0x20001003 ∷ 0x2000FFFF ∷ 0xF0000002 ∷ []) (7 ∷ 7 ∷ 7 ∷ []) ≡ left Done new_core (0x1003 ∷ 0xFFFF ∷ 0 ∷ [])
+pub program : load_sheet_of (0x20001003 ∷ 0x2000FFFF ∷ 0xF0000002 ∷ []) (7 ∷ 7 ∷ 7 ∷ []) ≡ left (Ok tt) new_core (0x1003 ∷ 0xFFFF ∷ 0 ∷ [])
 unfolding load_sheet_of refused_length read_from record_of
 program = refl
 
@@ -52,9 +53,9 @@ pub stretches : sheet_of new_core (5 ∷ 0 ∷ 6 ∷ 7 ∷ [])
     ≡ 0x30000000 ∷ 0x30010000 ∷ 0x30020000 ∷ 0x30030000 ∷ 0x30040000 ∷ 0x30050000 ∷ 0x30060000 ∷ 0x30070000
     ∷ 0x30080000 ∷ 0x30090000 ∷ 0x300AFFFF ∷ 0x300B0000
     ∷ 0x10000000 ∷ 0x20000005 ∷ 0x10000002 ∷ 0x20000006 ∷ 0x20000007 ∷ 0xF0000003 ∷ []
-unfolding sheet_of presets_from stretches_from records_at words_in nonzero register_of
+unfolding sheet_of presets_from stretches_from records_at register_of
 stretches = refl
 
-pub words : load_words_of (1 ∷ 2 ∷ []) (7 ∷ 7 ∷ 7 ∷ []) ≡ left Done new_core (1 ∷ 2 ∷ 0 ∷ [])
+pub words : load_words_of (1 ∷ 2 ∷ []) (7 ∷ 7 ∷ 7 ∷ []) ≡ left (Ok tt) new_core (1 ∷ 2 ∷ 0 ∷ [])
 unfolding load_words_of refused_length
 words = refl

@@ -1,5 +1,3 @@
-pub mod FieldLaws
-pub mod LoadLaws
 pub mod InputLaws
 pub mod SheetLaws
 pub mod WriteLaws

@@ -6,7 +6,9 @@ use native.Mathlib.Omega.{arith}
 use lib.ListN.{length, get_or, set, replicate, length-append, drop_of_length-le}
 use lib.Seq.{set_at, append_snoc}
 use lib.Dec.{ltb, eqb}
-use borrow.Author.Tests.{lt-ltb, eq-eqb, eqb-true, eqb-false}
+use borrow.Author.Tests.{lt-ltb, le-ltb, eq-eqb, ne_eqb, eqb-true, eqb-false}
+use Rattle.std.proofs.lemmas.List.Sums.{sum_by-cons}
+use Rattle.std.specs.Prelude.{Ok, cond, not}
 use Rattle.instructions.specs.Reg.{gpr_number, gpr_at, spr_at}
 use Rattle.instructions.specs.declared.reg.SpecialPurposeRegister.{SpecialPurposeRegister}
 use Rattle.instructions.specs.declared.reg.SpecialPurposeRegister.TheVariants.{IP, RP, SP, EF}
@@ -14,39 +16,47 @@ use Rattle.emulator.specs.declared.core_record.Core.{Core}
 use Rattle.emulator.specs.Core.{new_core, read_spr}
 use Rattle.instructions.proofs.Cases.{by_test, if_elim}
 use Rattle.sheet.specs.declared.fields.Record.TheVariants.{Place, Word, Preset, End}
-use Rattle.sheet.specs.Record.{register, low, count, record_of, register_of, with_register}
+use Rattle.sheet.specs.Record.{kind, above16, above20, register, low, count, record_of, register_of, with_register}
 use Rattle.sheet.specs.Load.{Reading, read_from}
-use Rattle.sheet.specs.Write.{place_record, word_record, preset_record, end_record, presets_from, records_at, stretches_from, nonzero, words_in}
+use Rattle.sheet.specs.Write.{place_record, word_record, preset_record, end_record, presets_from, records_at, stretches_from, words_in}
 use Rattle.sheet.specs.RoundTrip.{Words, WholeCore}
-use Rattle.sheet.proofs.FieldLaws as fields
 use Rattle.emulator.proofs.Stores.{four}
-use Rattle.sheet.proofs.WriteLaws.{at_zero, at_first, at_within, counts_none, counts_one}
+use Rattle.sheet.proofs.WriteLaws.{at_zero, at_first, at_within}
 
 -- each record has the kind and the fields that it was made of
-is_place : (a : ℕ) → a < 2 ^ 16 → record_of (place_record a) ≡ Place a
+is_place : (a : ℕ) → a < 2 ^ 16 → record_of (place_record a) ≡ Ok (Place a)
+unfolding record_of
 is_place a l =
+    let k : kind (place_record a) ≡ 1 = omega arith in
+    let z : above16 (place_record a) ≡ 0 = omega arith in
     let f : low (place_record a) ≡ a = omega arith in
-    sym (fields.place (place_record a) (omega arith)) ∙ ap Place f
+    rw (k, z, f)
 
-is_word : (v : ℕ) → v < 2 ^ 16 → record_of (word_record v) ≡ Word v
+is_word : (v : ℕ) → v < 2 ^ 16 → record_of (word_record v) ≡ Ok (Word v)
+unfolding record_of
 is_word v l =
+    let k : kind (word_record v) ≡ 2 = omega arith in
+    let z : above16 (word_record v) ≡ 0 = omega arith in
     let f : low (word_record v) ≡ v = omega arith in
-    sym (fields.word (word_record v) (omega arith)) ∙ ap Word f
+    rw (k, z, f)
 
-is_preset : (r v : ℕ) → r < 12 → v < 2 ^ 16 → record_of (preset_record r v) ≡ Preset r v
+is_preset : (r v : ℕ) → r < 12 → v < 2 ^ 16 → record_of (preset_record r v) ≡ Ok (Preset r v)
+unfolding record_of
 is_preset r v b l =
-    let q : preset_record r v / 2 ^ 20 ≡ 3 * 2 ^ 8 = omega arith in
+    let k : kind (preset_record r v) ≡ 3 = omega arith in
+    let z : above20 (preset_record r v) ≡ 0 = omega arith in
     let h : preset_record r v / 2 ^ 16 ≡ 3 * 2 ^ 12 + r = omega arith in
     let m : (3 * 2 ^ 12 + r) % 2 ^ 4 ≡ r = omega arith in
     let g : register (preset_record r v) ≡ r = rw (h, m) in
     let f : low (preset_record r v) ≡ v = omega arith in
-    let t : register (preset_record r v) ≤ 11 = rw g (omega arith) in
-    sym (fields.preset (preset_record r v) (omega arith) (rw q) t) ∙ rw (f, g)
+    rw (k, z, g, le-ltb 11 r (omega arith), f)
 
-is_end : (n : ℕ) → n < 2 ^ 28 → record_of (end_record n) ≡ End n
+is_end : (n : ℕ) → n < 2 ^ 28 → record_of (end_record n) ≡ Ok (End n)
+unfolding record_of
 is_end n l =
+    let k : kind (end_record n) ≡ 15 = omega arith in
     let f : count (end_record n) ≡ n = omega arith in
-    sym (fields.end (end_record n) (omega arith)) ∙ ap End f
+    rw (k, f)
 
 -- so it reads as one
 module _ (ws : List ℕ) (a n : ℕ) (c : Core) (mem : List ℕ) where
@@ -111,6 +121,16 @@ read_here ws pre zs x a n v c e p l =
     let in_range : a < length (pre ++ 0 ∷ zs) = omega arith in
     rw p (read_word ws a n c (pre ++ 0 ∷ zs) v l in_range ∙ ap (read_from ws (a + 1) (n + 1) c) (set_at pre 0 zs v a e))
 
+-- what a word counts
+abbrev nonzero : ℕ → ℕ
+nonzero v = cond (not (eqb v 0)) 1 0
+
+counts_none : (v : ℕ) → v ≡ 0 → nonzero v ≡ 0
+counts_none v z = rw (eq-eqb v 0 z)
+
+counts_one : (v : ℕ) → (v ≡ 0 → ⊥) → nonzero v ≡ 1
+counts_one v n = rw (ne_eqb v 0 n)
+
 -- the words from address a on, and the end: the memory so far is pre, then zeros. Within a stretch the load address x is a.
 abbrev pub Reads : List ℕ → Type 0
 Reads vs =
@@ -119,7 +139,7 @@ Reads vs =
     → read_from (stretches_from a b vs ++ end_record total ∷ []) x n c (pre ++ replicate (length vs) 0) ≡ Reading.gives c (pre ++ vs)
 
 reads_none : Reads []
-unfolding stretches_from words_in
+unfolding stretches_from
 reads_none pre x a n b total c e l h p s t =
     let same : n ≡ total = omega arith in
     rw same (read_end x total c (pre ++ []) t)
@@ -143,7 +163,7 @@ module _ (v : ℕ) (vs : List ℕ) (later : Reads vs) (pre : List ℕ) (a total 
     reads_zero : v ≡ 0 → Goal
     unfolding Goal
     reads_zero z =
-        let k = (counts_none v z).is in
+        let k = counts_none v z in
         rw (at_zero a b v z)
         (ap (λ (u : ℕ). read_from (stretches_from (a + 1) v vs ++ end_record total ∷ []) x n c (pre ++ u ∷ replicate (length vs) 0)) (sym z)
         ∙ reads_later x n (λ q. absurd (q z)) (omega arith))
@@ -151,7 +171,7 @@ module _ (v : ℕ) (vs : List ℕ) (later : Reads vs) (pre : List ℕ) (a total 
     reads_first : (v ≡ 0 → ⊥) → b ≡ 0 → Goal
     unfolding Goal
     reads_first z w =
-        let k = (counts_one v z).is in
+        let k = counts_one v z in
         let more = stretches_from (a + 1) v vs ++ end_record total ∷ [] in
         let zeros : List ℕ = replicate (length vs) 0 in
         rw (at_first a b v z w)
@@ -161,7 +181,7 @@ module _ (v : ℕ) (vs : List ℕ) (later : Reads vs) (pre : List ℕ) (a total 
     reads_within : (v ≡ 0 → ⊥) → (b ≡ 0 → ⊥) → Goal
     unfolding Goal
     reads_within z w =
-        let k = (counts_one v z).is in
+        let k = counts_one v z in
         let more = stretches_from (a + 1) v vs ++ end_record total ∷ [] in
         rw (at_within a b v z w)
         (read_here more pre (replicate (length vs) 0) x a n v c e (p w) (h 0) ∙ reads_later (a + 1) (n + 1) (λ q. refl) (omega arith))
@@ -172,17 +192,11 @@ module _ (v : ℕ) (vs : List ℕ) (later : Reads vs) (pre : List ℕ) (a total 
         (λ z. by_test (eqb b 0) (λ w. reads_first (eqb-false v 0 z) (eqb-true b 0 w)) (λ w. reads_within (eqb-false v 0 z) (eqb-false b 0 w)))
 
 reads_more : (v : ℕ) (vs : List ℕ) → Reads vs → Reads (v ∷ vs)
-unfolding stretches_from words_in Goal
-reads_more v vs later pre x a n b total c e l h p s t = reads_any v vs later pre a total c e l h t x n b p s
+unfolding stretches_from Goal
+reads_more v vs later pre x a n b total c e l h p s t =
+    let counted : n + (nonzero v + words_in vs) ≡ total = rw (sum_by-cons nonzero v vs) at s in
+    reads_any v vs later pre a total c e l h t x n b p counted
 
 pub read_stretches : (vs : List ℕ) → Reads vs
 read_stretches [] = reads_none
 read_stretches (v ∷ vs) = reads_more v vs (read_stretches vs)
-
--- no more words are nonzero than there are
-pub words_few : (vs : List ℕ) → words_in vs ≤ length vs
-unfolding words_in
-words_few [] = omega arith
-words_few (v ∷ vs) =
-    let more = words_few vs in
-    by_test (eqb v 0) (λ z. let k = (counts_none v (eqb-true v 0 z)).is in omega arith) (λ z. let k = (counts_one v (eqb-false v 0 z)).is in omega arith)

@@ -1,6 +1,7 @@
 -- A program's input as records, low byte first (document 01, Stops; the program).
-use Rattle.std.specs.Prelude.{ℕ, ◌+◌, ◌*◌, ◌%◌, ◌^◌, List, [], ◌∷◌, length, ltb, eqb, if◌then◌else◌}
-use Rattle.sheet.specs.declared.write.Written.{Written}
+use Rattle.std.specs.Prelude.{ℕ, Result, Ok, Err, ◌+◌, ◌*◌, ◌%◌, ◌^◌, List, [], ◌∷◌, length, ltb, eqb, if◌then◌else◌}
+use Rattle.sheet.specs.declared.refusal.SheetRefusal.{SheetRefusal}
+use Rattle.sheet.specs.declared.refusal.SheetRefusal.TheVariants.{Input}
 use Rattle.sheet.specs.Write.{Wrote, wrote, in_front}
 
 abbrev pub low_first : ℕ → ℕ → ℕ → ℕ → ℕ
@@ -13,12 +14,14 @@ records_of (a ∷ b ∷ []) = []
 records_of (a ∷ b ∷ c ∷ []) = []
 records_of (a ∷ b ∷ c ∷ d ∷ bytes) = low_first a b c d ∷ records_of bytes
 
--- 27, not whole 32-bit words or above 32,768 bytes; 0, no test refuses
-unfoldable pub input_refusal : List ℕ → ℕ
-input_refusal bytes = if eqb (length bytes % 4) 0 then (if ltb 32768 (length bytes) then 27 else 0) else 27
+-- refused: not whole 32-bit words or above 32,768 bytes
+unfoldable pub input_records : List ℕ → Result (List ℕ) SheetRefusal
+input_records bytes = if eqb (length bytes % 4) 0 then (if ltb 32768 (length bytes) then Err Input else Ok (records_of bytes)) else Err Input
 
 -- the records of an input, put at the front of a buffer that has room for them
-unfoldable pub input_of : List ℕ → List ℕ → Wrote
-input_of bytes out =
-    if eqb (input_refusal bytes) 0 then in_front (records_of bytes) out
-    else wrote (Written.Refused (input_refusal bytes)) out
+abbrev pub put_in : Result (List ℕ) SheetRefusal → List ℕ → Wrote
+put_in (Ok rs) out = in_front rs out
+put_in (Err r) out = wrote (Err r) out
+
+abbrev pub input_of : List ℕ → List ℕ → Wrote
+input_of bytes out = put_in (input_records bytes) out

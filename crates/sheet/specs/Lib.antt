@@ -1,3 +1,4 @@
+pub mod Refusal
 pub mod Record
 pub mod Load
 pub mod Write

@@ -1,10 +1,12 @@
 -- A record of a rule sheet (document 01, The rule sheet): a 32-bit word, bits 31..28 the kind.
-use Rattle.std.specs.Prelude.{ℕ, ◌-◌, ◌/◌, ◌%◌, ◌^◌, ltb, eqb, if◌then◌else◌}
+use Rattle.std.specs.Prelude.{ℕ, ◌-◌, ◌/◌, ◌%◌, ◌^◌, Result, Ok, Err, ltb, eqb, if◌then◌else◌}
 use Rattle.instructions.specs.Reg.{gpr_at, spr_at}
 use Rattle.emulator.specs.declared.core_record.Core.{Core}
 use Rattle.emulator.specs.Core.{read_gpr, write_gpr, read_spr, write_spr}
 use Rattle.sheet.specs.declared.fields.Record.{Record}
-use Rattle.sheet.specs.declared.fields.Record.TheVariants.{Place, Word, Preset, End, Refused}
+use Rattle.sheet.specs.declared.fields.Record.TheVariants.{Place, Word, Preset, End}
+use Rattle.sheet.specs.declared.refusal.SheetRefusal.{SheetRefusal}
+use Rattle.sheet.specs.declared.refusal.SheetRefusal.TheVariants.{UnknownKind, NonzeroBit, UnknownRegister}
 
 -- bits 31..28, 27..16, 27..20, 19..16, 15..0 and 27..0
 abbrev pub kind : ℕ → ℕ
@@ -25,15 +27,15 @@ low w = w % 2 ^ 16
 abbrev pub count : ℕ → ℕ
 count w = w % 2 ^ 28
 
--- the record that a word is, or the test that it fails: 20 unknown kind, 21 a bit set that must be 0, 22 register above 11
-unfoldable pub record_of : ℕ → Record
+-- the record that a word is, or the test that it fails: unknown kind, a bit set that must be 0, register above 11
+unfoldable pub record_of : ℕ → Result Record SheetRefusal
 record_of w =
-    if eqb (kind w) 1 then (if eqb (above16 w) 0 then Place (low w) else Refused 21)
-    else if eqb (kind w) 2 then (if eqb (above16 w) 0 then Word (low w) else Refused 21)
+    if eqb (kind w) 1 then (if eqb (above16 w) 0 then Ok (Place (low w)) else Err NonzeroBit)
+    else if eqb (kind w) 2 then (if eqb (above16 w) 0 then Ok (Word (low w)) else Err NonzeroBit)
     else if eqb (kind w) 3 then
-    (if eqb (above20 w) 0 then (if ltb 11 (register w) then Refused 22 else Preset (register w) (low w)) else Refused 21)
-    else if eqb (kind w) 15 then End (count w)
-    else Refused 20
+    (if eqb (above20 w) 0 then (if ltb 11 (register w) then Err UnknownRegister else Ok (Preset (register w) (low w))) else Err NonzeroBit)
+    else if eqb (kind w) 15 then Ok (End (count w))
+    else Err UnknownKind
 
 -- a register by its number, 0 to 7 general, 8 ip, 9 rp, 10 sp, 11 ef, and the core with it changed
 unfoldable pub register_of : Core → ℕ → ℕ

@@ -1,8 +1,7 @@
 -- The round trip (document 01, The rule sheet): loading the sheet that the writer gives, into memory of the same length, restores core and
 -- memory. That every value is a 16-bit word and that there are eight general registers is assumed here; the types of the code say so.
-use Rattle.std.specs.Prelude.{ℕ, ◌^◌, ◌<◌, ◌≤◌, List, ◌≡◌, length, get_or}
+use Rattle.std.specs.Prelude.{ℕ, Ok, ◌^◌, ◌<◌, ◌≤◌, List, ◌≡◌, length, get_or}
 use Rattle.emulator.specs.declared.core_record.Core.{Core}
-use Rattle.sheet.specs.declared.load.Loaded.{Loaded}
 use Rattle.sheet.specs.Load.{left, load_sheet_of}
 use Rattle.sheet.specs.Write.{sheet_of}
 
@@ -21,4 +20,4 @@ pub record WholeCore (c : Core) : Type 0 where
 abbrev pub RoundTrip : Type 0
 RoundTrip =
     (c : Core) (mem held : List ℕ) → WholeCore c → Words mem → 1 ≤ length mem → length mem ≤ 65536 → length held ≡ length mem
-    → load_sheet_of (sheet_of c mem) held ≡ left Loaded.Done c mem
+    → load_sheet_of (sheet_of c mem) held ≡ left (Ok tt) c mem

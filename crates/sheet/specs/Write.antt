@@ -1,21 +1,23 @@
 -- Writing a rule sheet (document 01, The rule sheet; Stops).
-use Rattle.std.specs.Prelude.{ℕ, zero, suc, ◌+◌, ◌*◌, ◌^◌, List, [], ◌∷◌, ◌++◌, length, drop, ltb, eqb, if◌then◌else◌}
+use Rattle.std.specs.Prelude.{ℕ, Result, Ok, Err, zero, suc, ◌+◌, ◌*◌, ◌^◌, List, [], ◌∷◌, ◌++◌, length, drop, count_by, not, ltb, eqb, if◌then◌else◌}
 use Rattle.emulator.specs.declared.core_record.Core.{Core}
 use Rattle.emulator.specs.Memory.{refused_length}
-use Rattle.sheet.specs.declared.write.Written.{Written}
+use Rattle.emulator.specs.declared.refusal.Refusal.TheVariants.{MemoryLength}
+use Rattle.sheet.specs.declared.refusal.SheetRefusal.{SheetRefusal}
+use Rattle.sheet.specs.declared.refusal.SheetRefusal.TheVariants.{Host, ShortBuffer}
 use Rattle.sheet.specs.Record.{register_of}
 
--- what a write leaves: its answer, and what the lent buffer holds
+-- what a write leaves: how many records it wrote, and what the lent buffer holds
 pub record Wrote : Type 0 where
-  pub answer : Written
+  pub answer : Result ℕ SheetRefusal
   pub buffer : List ℕ
 
-abbrev pub wrote : Written → List ℕ → Wrote
+abbrev pub wrote : Result ℕ SheetRefusal → List ℕ → Wrote
 wrote x b = record { answer = x; buffer = b }
 
 -- records put at the front of the buffer, which is unchanged past them
 abbrev pub in_front : List ℕ → List ℕ → Wrote
-in_front rs buffer = wrote (Written.Records (length rs)) (rs ++ drop (length rs) buffer)
+in_front rs buffer = wrote (Ok (length rs)) (rs ++ drop (length rs) buffer)
 
 -- the four kinds of record
 abbrev pub place_record : ℕ → ℕ
@@ -48,20 +50,16 @@ stretches_from a before [] = []
 stretches_from a before (v ∷ vs) = records_at a before v ++ stretches_from (a + 1) v vs
 
 -- how many words are nonzero
-unfoldable pub nonzero : ℕ → ℕ
-nonzero v = if eqb v 0 then 0 else 1
-
-unfoldable pub words_in : List ℕ → ℕ
-words_in [] = 0
-words_in (v ∷ vs) = nonzero v + words_in vs
+abbrev pub words_in : List ℕ → ℕ
+words_in = count_by (λ v. not (eqb v 0))
 
 -- the sheet: presets 0 to 11, the stretches, and the end with the number of word records
 unfoldable pub sheet_of : Core → List ℕ → List ℕ
 sheet_of c mem = presets_from c 12 0 ++ stretches_from 0 0 mem ++ end_record (words_in mem) ∷ []
 
--- writing it: host test 1; 4, the buffer is too short
+-- writing it: host test 1, then whether the buffer is too short
 unfoldable pub write_sheet_of : Core → List ℕ → List ℕ → Wrote
 write_sheet_of c mem sheet =
-    if refused_length (length mem) then wrote (Written.Refused 1) sheet
-    else if ltb (length sheet) (length (sheet_of c mem)) then wrote (Written.Refused 4) sheet
+    if refused_length (length mem) then wrote (Err (Host MemoryLength)) sheet
+    else if ltb (length sheet) (length (sheet_of c mem)) then wrote (Err ShortBuffer) sheet
     else in_front (sheet_of c mem) sheet

@@ -4,9 +4,10 @@
 mod fields;
 mod input;
 mod load;
-mod memory;
+mod refusal;
 mod write;
 
 pub use input::records;
-pub use load::{Load, Loaded, load_sheet, load_words};
-pub use write::{Written, write_sheet};
+pub use load::{Load, load_sheet, load_words};
+pub use refusal::SheetRefusal;
+pub use write::write_sheet;

@@ -1,65 +1,62 @@
 // Loading memory and core.
-ghost use Rattle.std.specs.Prelude.{◌≡◌, length};
-ghost use Rattle.sheet.specs.Load.{left, load_words_of, Reading, sheet_reads, tested_of, load_sheet_of};
+ghost use Rattle.std.specs.Prelude.{◌≡◌, Ok, length};
+ghost use Rattle.emulator.specs.Core.{new_core};
+ghost use Rattle.sheet.specs.Load.{left, load_words_of, Reading, sheet_reads, tested_of, sheet_test, load_sheet_of};
 
 use crate::fields::{Record, record_of, with_register};
-use crate::memory::{clear, copy, put};
+use crate::refusal::SheetRefusal;
 use emulator::{Core, check_length};
 
-// What a load comes to: done, or refused with the number of the test that failed.
-#[derive(Clone, Copy)]
-pub enum Loaded {
-    Done,
-    Refused(u8),
-}
-
+// What a load comes to. A refused one hands back a fresh core.
 #[derive(Clone, Copy)]
 pub struct Load {
     pub core: Core,
-    pub answer: Loaded,
+    pub answer: Result<(), SheetRefusal>,
 }
 
-// Loads a plain word list: memory becomes the words from address 0 on, and 0 past them.
+// Memory becomes the words from address 0 on, and 0 past them.
+#[tactic(auto, unfolding(crate::specs::Load::load_words_of))]
+fn put_words(words: &[u16], memory: &mut [u16]) -> Result<(), SheetRefusal>
+    ensures { left result new_core memory.new ≡ load_words_of words.now memory.old }
+{
+    check_length(memory.len())?;
+    if memory.len() < words.len() {
+        return Err(SheetRefusal::LongList);
+    }
+    let (front, rest) = memory.split_at_mut(words.len());
+    front.copy_from_slice(words);
+    rest.fill(0);
+    Ok(())
+}
+
+// Loads a plain word list.
 pub fn load_words(words: &[u16], memory: &mut [u16]) -> Load
     ensures { left result.answer result.core memory.new ≡ load_words_of words.now memory.old }
 {
-    if let Err(refusal) = check_length(memory.len()) {
-        return Load {
-            core: Core::new(),
-            answer: Loaded::Refused(refusal.number()),
-        };
-    }
-    if memory.len() < words.len() {
-        return Load {
-            core: Core::new(),
-            answer: Loaded::Refused(3),
-        };
-    }
-    clear(memory);
-    copy(words, memory);
+    let answer = put_words(words, memory);
     Load {
         core: Core::new(),
-        answer: Loaded::Done,
+        answer,
     }
 }
 
-// The tests of a sheet for a memory of `size` words, record by record.
-fn test_sheet(sheet: &[u32], size: usize) -> Loaded
+// The tests of a sheet's records for a memory of `size` words, in order.
+#[tactic(auto, using(crate::proofs::SheetLaws::testing))]
+fn test_records(sheet: &[u32], size: usize) -> Result<(), SheetRefusal>
     ensures { result ≡ tested_of (sheet_reads sheet.now size) }
 {
     let mut address: usize = 0;
     let mut words: usize = 0;
-    let mut i = 0;
-    while i < sheet.len() {
-        let record = record_of(sheet[i]);
-        i += 1;
-        match record {
+    let mut rest = sheet;
+    while let Some((w, after)) = rest.split_first() {
+        rest = after;
+        match record_of(*w)? {
             Record::Place(place) => {
                 address = place as usize;
             }
             Record::Word(_) => {
                 if size <= address {
-                    return Loaded::Refused(23);
+                    return Err(SheetRefusal::PastMemory);
                 }
                 address += 1;
                 words += 1;
@@ -67,73 +64,69 @@ fn test_sheet(sheet: &[u32], size: usize) -> Loaded
             Record::Preset(_, _) => {}
             Record::End(count) => {
                 if count as usize != words {
-                    return Loaded::Refused(26);
+                    return Err(SheetRefusal::WrongCount);
                 }
-                if i < sheet.len() {
-                    return Loaded::Refused(25);
+                if !rest.is_empty() {
+                    return Err(SheetRefusal::AfterEnd);
                 }
-                return Loaded::Done;
-            }
-            Record::Refused(number) => {
-                return Loaded::Refused(number);
+                return Ok(());
             }
         }
     }
-    Loaded::Refused(24)
+    Err(SheetRefusal::NoEnd)
+}
+
+// The tests of a sheet, host test 1 first.
+fn test_sheet(sheet: &[u32], size: usize) -> Result<(), SheetRefusal>
+    ensures { result ≡ sheet_test sheet.now size }
+{
+    check_length(size)?;
+    test_records(sheet, size)
 }
 
 // What a sheet that passed its tests does. It cannot fail any more: its end record is the last, and every word has its place.
+#[tactic(auto, using(crate::proofs::SheetLaws::applying))]
 fn apply_sheet(sheet: &[u32], memory: &mut [u16]) -> Core
-    requires { Loaded.Done ≡ tested_of (sheet_reads sheet.now (length memory.old)) }
+    requires { Ok tt ≡ sheet_test sheet.now (length memory.old) }
     ensures { Reading.gives result memory.new ≡ sheet_reads sheet.now (length memory.old) }
 {
-    clear(memory);
+    memory.fill(0);
     let mut core = Core::new();
     let mut address: usize = 0;
-    let mut i = 0;
-    while i < sheet.len() {
-        let record = record_of(sheet[i]);
-        i += 1;
+    let mut rest = sheet;
+    while let Some((w, after)) = rest.split_first() {
+        rest = after;
+        let Ok(record) = record_of(*w) else {
+            break;
+        };
         match record {
             Record::Place(place) => {
                 address = place as usize;
             }
             Record::Word(word) => {
-                address = put(memory, address, word);
+                memory[address] = word;
+                address += 1;
             }
             Record::Preset(register, value) => {
                 core = with_register(core, register, value);
             }
             Record::End(_) => {
-                return core;
-            }
-            Record::Refused(_) => {
-                return core;
+                break;
             }
         }
     }
     core
 }
 
-// Loads a rule sheet. A refused one changes nothing.
+// Loads a rule sheet. A refused one changes nothing: only the second pass writes.
+#[tactic(auto, unfolding(crate::specs::Load::load_sheet_of))]
 pub fn load_sheet(sheet: &[u32], memory: &mut [u16]) -> Load
     ensures { left result.answer result.core memory.new ≡ load_sheet_of sheet.now memory.old }
 {
-    if let Err(refusal) = check_length(memory.len()) {
-        return Load {
-            core: Core::new(),
-            answer: Loaded::Refused(refusal.number()),
-        };
-    }
-    let tested = test_sheet(sheet, memory.len());
-    match tested {
-        Loaded::Refused(number) => Load {
-            core: Core::new(),
-            answer: Loaded::Refused(number),
-        },
-        Loaded::Done => Load {
-            core: apply_sheet(sheet, memory),
-            answer: Loaded::Done,
-        },
-    }
+    let answer = test_sheet(sheet, memory.len());
+    let core = match answer {
+        Ok(()) => apply_sheet(sheet, memory),
+        Err(_) => Core::new(),
+    };
+    Load { core, answer }
 }

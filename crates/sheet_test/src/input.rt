@@ -4,34 +4,33 @@ use crate::show;
 use std::io;
 
 pub fn small(rt: &impl Print) -> io::Result<()> {
-    first_bytes(rt, 0)?;
-    first_bytes(rt, 3)?;
-    first_bytes(rt, 4)?;
-    first_bytes(rt, 5)?;
-    first_bytes(rt, 12)
+    for n in [0, 3, 4, 5, 12] {
+        first_bytes(rt, n)?;
+    }
+    Ok(())
 }
 
 fn first_bytes(rt: &impl Print, n: usize) -> io::Result<()> {
-    let bytes = BYTES;
     show::number(rt, n as u64)?;
-    if n <= 12 {
-        read(rt, &bytes[0..n], 0, 4)?;
+    if let Some(bytes) = BYTES.get(..n) {
+        read(rt, bytes, 0, 4)?;
     }
     Ok(())
 }
 
 // As many bytes as a program takes, and more.
 pub fn large(rt: &impl Print) -> io::Result<()> {
-    many_bytes(rt, 32768)?;
-    many_bytes(rt, 32769)?;
-    many_bytes(rt, 32772)
+    for n in [32768, 32769, 32772] {
+        many_bytes(rt, n)?;
+    }
+    Ok(())
 }
 
 fn many_bytes(rt: &impl Print, n: usize) -> io::Result<()> {
     let bytes = [0xFEu8; 32772];
     show::number(rt, n as u64)?;
-    if n <= 32772 {
-        read(rt, &bytes[0..n], 8190, 8192)?;
+    if let Some(bytes) = bytes.get(..n) {
+        read(rt, bytes, 8190, 8192)?;
     }
     Ok(())
 }
@@ -40,18 +39,8 @@ fn many_bytes(rt: &impl Print, n: usize) -> io::Result<()> {
 fn read(rt: &impl Print, bytes: &[u8], from: usize, to: usize) -> io::Result<()> {
     let mut out = [0xFFFFFFFFu32; 8192];
     show::written(rt, sheet::records(bytes, &mut out))?;
-    show_out(rt, &out, from, to)
-}
-
-fn show_out(rt: &impl Print, out: &[u32; 8192], from: usize, to: usize) -> io::Result<()> {
-    show_part(rt, out, from, to)
-}
-
-fn show_part(rt: &impl Print, list: &[u32], from: usize, to: usize) -> io::Result<()> {
-    if from <= to {
-        if to <= list.len() {
-            show::records(rt, &list[from..to])?;
-        }
+    if let Some(part) = out.get(from..to) {
+        show::records(rt, part)?;
     }
     show::line(rt)
 }

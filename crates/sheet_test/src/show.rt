@@ -1,6 +1,6 @@
 // Printing.
 use emulator::Core;
-use sheet::{Loaded, Written};
+use sheet::SheetRefusal;
 use std::io;
 
 pub fn text(rt: &impl Print, s: &[u8]) -> io::Result<()> {
@@ -20,42 +20,33 @@ fn record(rt: &impl Print, r: u32) -> io::Result<()> {
     print!(rt; "{r:08x} ")
 }
 
-pub fn loaded(rt: &impl Print, answer: Loaded) -> io::Result<()> {
+pub fn loaded(rt: &impl Print, answer: Result<(), SheetRefusal>) -> io::Result<()> {
     match answer {
-        Loaded::Done => text(rt, b"done "),
-        Loaded::Refused(n) => refused(rt, n),
+        Ok(()) => text(rt, b"done "),
+        Err(refusal) => refused(rt, refusal),
     }
 }
 
-// The number of records, or 0.
-pub fn written(rt: &impl Print, answer: Written) -> io::Result<usize> {
+pub fn written(rt: &impl Print, answer: Result<usize, SheetRefusal>) -> io::Result<()> {
     match answer {
-        Written::Records(n) => {
+        Ok(n) => {
             text(rt, b"records ")?;
-            number(rt, n as u64)?;
-            Ok(n)
+            number(rt, n as u64)
         }
-        Written::Refused(n) => {
-            refused(rt, n)?;
-            Ok(0)
-        }
+        Err(refusal) => refused(rt, refusal),
     }
 }
 
-fn refused(rt: &impl Print, n: u8) -> io::Result<()> {
+fn refused(rt: &impl Print, refusal: SheetRefusal) -> io::Result<()> {
     text(rt, b"refused ")?;
-    number(rt, n as u64)
+    number(rt, refusal.number() as u64)
 }
 
 // ip, rp, sp, ef, r0 to r7.
 pub fn core(rt: &impl Print, c: Core) -> io::Result<()> {
     text(rt, b"core ")?;
-    word(rt, c.ip)?;
-    word(rt, c.rp)?;
-    word(rt, c.sp)?;
-    word(rt, c.ef)?;
-    let gprs = c.gprs;
-    words(rt, &gprs)
+    words(rt, &[c.ip, c.rp, c.sp, c.ef])?;
+    words(rt, &c.gprs)
 }
 
 pub fn words(rt: &impl Print, list: &[u16]) -> io::Result<()> {
@@ -78,23 +69,11 @@ pub fn line(rt: &impl Print) -> io::Result<()> {
 
 // A sum and a word, such that the order of the words matters.
 fn add(s: u32, w: u16) -> u32 {
-    let twice = s.wrapping_add(s);
-    let turned = twice.wrapping_add(s / 0x80000000);
-    turned.wrapping_add(w as u32)
-}
-
-fn sum_of(list: &[u16]) -> u32 {
-    let mut s: u32 = 1;
-    let mut i = 0;
-    while i < list.len() {
-        s = add(s, list[i]);
-        i += 1;
-    }
-    s
+    s.rotate_left(1).wrapping_add(w as u32)
 }
 
 // A number that stands for a list too long to print.
 pub fn sum(rt: &impl Print, list: &[u16]) -> io::Result<()> {
     text(rt, b"sum ")?;
-    record(rt, sum_of(list))
+    record(rt, list.iter().fold(1, |s, w| add(s, *w)))
 }

@@ -1,6 +1,6 @@
--- `sheet_test::load::sheets` ends: the loop goes up the list.
-use Rattle.std.proofs.Common.{length, ◌-◌}
+-- `sheets` ends: each turn leaves less of the list.
+use Rattle.std.proofs.Common.{length}
 use Rattle.sheet_test.proofs.load.sheets.Given as goal
 
-abbrev pub decreases-loop-i : goal.decreases-loop-i
-decreases-loop-i g l = length l.list - l.i
+abbrev pub decreases-loop-n : goal.decreases-loop-n
+decreases-loop-n g l = length l.rest

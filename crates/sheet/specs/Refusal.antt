@@ -1,0 +1,19 @@
+-- Why a load, a write or an input is refused (document 01, Stops).
+use Rattle.std.specs.Prelude.{ℕ}
+use Rattle.emulator.specs.Outcome.{refusal_number}
+use Rattle.sheet.specs.declared.refusal.SheetRefusal.{SheetRefusal}
+use Rattle.sheet.specs.declared.refusal.SheetRefusal.TheVariants.{Host, LongList, ShortBuffer, UnknownKind, NonzeroBit, UnknownRegister, PastMemory, NoEnd, AfterEnd, WrongCount, Input}
+
+-- the documents' numbers
+abbrev pub sheet_refusal_number : SheetRefusal → ℕ
+sheet_refusal_number (Host r) = refusal_number r
+sheet_refusal_number LongList = 3
+sheet_refusal_number ShortBuffer = 4
+sheet_refusal_number UnknownKind = 20
+sheet_refusal_number NonzeroBit = 21
+sheet_refusal_number UnknownRegister = 22
+sheet_refusal_number PastMemory = 23
+sheet_refusal_number NoEnd = 24
+sheet_refusal_number AfterEnd = 25
+sheet_refusal_number WrongCount = 26
+sheet_refusal_number Input = 27

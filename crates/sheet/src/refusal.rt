@@ -1,0 +1,61 @@
+// Why a load, a write or an input is refused.
+ghost use Rattle.std.specs.Prelude.{◌≡◌};
+ghost use Rattle.sheet.specs.Refusal.{sheet_refusal_number};
+ghost use Rattle.sheet.specs.declared.refusal.SheetRefusal.TheVariants.{Host};
+
+use emulator::Refusal;
+
+// The test that refuses, by the documents' number.
+#[derive(Clone, Copy, Debug, PartialEq, Eq)]
+pub enum SheetRefusal {
+    // 1 and 2.
+    Host(Refusal),
+    // 3: the word list is longer than memory.
+    LongList,
+    // 4: the buffer is too short for the sheet.
+    ShortBuffer,
+    // 20.
+    UnknownKind,
+    // 21: a bit is set that must be 0.
+    NonzeroBit,
+    // 22: the register's number is above 11.
+    UnknownRegister,
+    // 23: a word record at an address at or past memory's length.
+    PastMemory,
+    // 24.
+    NoEnd,
+    // 25: records after the end.
+    AfterEnd,
+    // 26: the end's count of word records.
+    WrongCount,
+    // 27: the input isn't whole records, or is above 32,768 bytes.
+    Input,
+}
+
+impl SheetRefusal {
+    pub fn number(self) -> u8
+        ensures { result ≡ sheet_refusal_number self }
+    {
+        match self {
+            SheetRefusal::Host(refusal) => refusal.number(),
+            SheetRefusal::LongList => 3,
+            SheetRefusal::ShortBuffer => 4,
+            SheetRefusal::UnknownKind => 20,
+            SheetRefusal::NonzeroBit => 21,
+            SheetRefusal::UnknownRegister => 22,
+            SheetRefusal::PastMemory => 23,
+            SheetRefusal::NoEnd => 24,
+            SheetRefusal::AfterEnd => 25,
+            SheetRefusal::WrongCount => 26,
+            SheetRefusal::Input => 27,
+        }
+    }
+}
+
+impl From<Refusal> for SheetRefusal {
+    ghost from_gives = { λ refusal given. given ≡ Host refusal };
+
+    fn from(refusal: Refusal) -> SheetRefusal {
+        SheetRefusal::Host(refusal)
+    }
+}
