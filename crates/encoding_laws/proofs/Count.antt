@@ -4,11 +4,11 @@ use mathlib.Core.List.{List}
 use mathlib.Core.Path.{◌≡◌, ◌∙◌, refl, ap}
 use Prim.Native.Nat.{ℕ, ◌+◌, ◌*◌}
 use lib.ListN.{replicate}
-use Rattle.std.specs.Prelude.{Result}
+use Rattle.std.specs.Prelude.{Result, sum}
 use Rattle.instructions.specs.Decoding.{decode_of, decode_bytes}
 use Rattle.instructions.specs.declared.ins.Instruction.{Instruction}
 use Rattle.instructions.specs.declared.ins.encoding.Undecodable.{Undecodable}
-use Rattle.encoding_laws.specs.Count.{over, count, kinds_below, kinds_of_all, sum, Count}
+use Rattle.encoding_laws.specs.Count.{over, count, kinds_below, kinds_of_all, Count}
 use Rattle.encoding_laws.proofs.Inverse.{bytes}
 use Rattle.encoding_laws.proofs.Table.{by_rows, over_same}
 

@@ -1,10 +1,11 @@
 -- `decode_of` is the inverse of `encode_of`.
 -- Assumes nothing.
 use mathlib.Core.Path.{◌≡◌, ◌∙◌, refl, subst}
-use mathlib.Core.Bool.{Bool}
+use mathlib.Core.Bool.{Bool, true}
 use Prim.Native.Nat.{ℕ, ◌+◌, ◌*◌, ◌/◌, ◌%◌, ◌<◌}
 use native.Mathlib.Omega.{arith}
-use lib.Dec.{T, eqb, eqb→eq}
+use lib.Dec.{eqb}
+use Rattle.std.proofs.lemmas.Bool.{agree_below, agree_below_at, eqb-true}
 use Rattle.std.specs.Prelude.{Result, Ok, Err}
 use Rattle.instructions.specs.Encoding.{encode_of}
 use Rattle.encoding_laws.specs.Reduced.{byte_of, reduced}
@@ -17,7 +18,6 @@ use Rattle.instructions.proofs.RegLaws.{Sort, general, special, decimal, gpr_at_
 use Rattle.instructions.specs.declared.ins.Instruction.{Instruction}
 use Rattle.instructions.specs.declared.ins.encoding.Undecodable.{Undecodable}
 use Rattle.encoding_laws.specs.Inverse.{Inverse}
-use Rattle.encoding_laws.proofs.Table.{every, at}
 
 -- the answer leads back to the word
 abbrev back : ℕ → Result Instruction Undecodable → Bool
@@ -28,25 +28,25 @@ abbrev back_at : ℕ → ℕ → Bool
 back_at h l = back (h * 256 + l) (decode_bytes (h * 256 + l) h l)
 
 -- all 65,536 words, computed
-all_back : T (every (λ h. every (λ l. back_at h l) 256) 256)
-all_back = tt
+all_back : agree_below (λ h. agree_below (back_at h) (λ l. true) 256) (λ h. true) 256 ≡ true
+all_back = refl
 
-back_at_lem : (h l : ℕ) → h < 256 → l < 256 → T (back_at h l)
-back_at_lem h l hh hl = at (λ l. back_at h l) 256 (at (λ h. every (λ l. back_at h l) 256) 256 all_back h hh) l hl
-
-back_word : (w : ℕ) → w < 65536 → T (back w (decode_of w))
+back_word : (w : ℕ) → w < 65536 → back w (decode_of w) ≡ true
 unfolding decode_of
-back_word w h =
-    let e : w / 256 * 256 + w % 256 ≡ w = omega arith in
-    subst (λ (v : ℕ). T (back v (decode_bytes v (w / 256) (w % 256)))) e (back_at_lem (w / 256) (w % 256) (omega arith) (omega arith))
+back_word w s =
+    let h = w / 256 in
+    let l = w % 256 in
+    let row = agree_below_at (λ h. agree_below (back_at h) (λ l. true) 256) (λ h. true) 256 h all_back (omega arith) in
+    let e : h * 256 + l ≡ w = omega arith in
+    subst (λ (v : ℕ). back v (decode_bytes v h l) ≡ true) e (agree_below_at (back_at h) (λ l. true) 256 l row (omega arith))
 
 -- a word that decodes is the encoding of what it decodes to
 encode_decode : (w : ℕ) → w < 65536 → (i : Instruction) → decode_of w ≡ Ok i → encode_of i ≡ w
-encode_decode w h i e = eqb→eq (encode_of i) w (subst (λ (d : Result Instruction Undecodable). T (back w d)) e (back_word w h))
+encode_decode w h i e = eqb-true (encode_of i) w (rw e at (back_word w h))
 
 -- a word that does not is undecodable, with that word
 undecodable : (w : ℕ) → w < 65536 → (v : ℕ) → decode_of w ≡ no_instruction v → v ≡ w
-undecodable w h v e = eqb→eq v w (subst (λ (d : Result Instruction Undecodable). T (back w d)) e (back_word w h))
+undecodable w h v e = eqb-true v w (rw e at (back_word w h))
 
 -- the upper and the lower byte of a word
 pub bytes : (h l w : ℕ) → w ≡ h * 256 + l → l < 256 → decode_of w ≡ decode_bytes w h l

@@ -1,4 +1,4 @@
--- Facts about finitely many cases, proved by one test that antt computes.
+-- Numbers taken in by rows.
 -- Assumes nothing.
 use mathlib.Core.Path.{◌≡◌, ◌∙◌, refl, ap, subst, sym}
 use mathlib.Core.Bool.{Bool, true, false}
@@ -8,20 +8,6 @@ use native.Mathlib.Nat.{not-suc-le-zero, le_of_suc-le-suc, eq-or-lt_of_le, add-z
 use native.Mathlib.Omega.{arith}
 use lib.Dec.{T}
 use Rattle.encoding_laws.specs.Count.{over}
-
--- the test f passes at every number below n
-abbrev pub every : (ℕ → Bool) → ℕ → Bool
-every f zero = true
-every f (suc n) = elim (f n) [ true ↦ every f n | false ↦ false ]
-
-step : (f : ℕ → Bool) (n k : ℕ) (b : Bool) → f n ≡ b → T (elim b [ true ↦ every f n | false ↦ false ]) → (T (every f n) → k < n → T (f k)) → k < suc n → T (f k)
-step f n k true e t ih h =
-    ⊎_elim (λ q. subst T (sym (ap f q ∙ e)) tt) (λ l. ih t l) (eq-or-lt_of_le (le_of_suc-le-suc h))
-step f n k false e t ih h = absurd t
-
-pub at : (f : ℕ → Bool) (n : ℕ) → T (every f n) → (k : ℕ) → k < n → T (f k)
-at f zero t k h = absurd (not-suc-le-zero h)
-at f (suc n) t k h = step f n k (f n) refl t (λ t' h'. at f n t' k h') h
 
 module _ {A : Type 0} where
   -- n numbers more

@@ -1,5 +1,5 @@
 -- How many words decode, and to which kinds (document 01, Words).
-use Rattle.std.specs.Prelude.{List, [], ◌∷◌, ◌≡◌, ℕ, zero, suc, ◌+◌, replicate, Result, Ok, Err}
+use Rattle.std.specs.Prelude.{List, [], ◌∷◌, ◌≡◌, ℕ, zero, suc, sum, replicate, Result, Ok, Err}
 use Rattle.instructions.specs.Decoding.{decode_of}
 use Rattle.instructions.specs.declared.ins.Instruction.{Instruction}
 use Rattle.instructions.specs.declared.ins.Instruction.TheVariants.{Nop, Hlt, Mov, DMov, Putl, Puth, Read, Write, Spread, Spwrite, DRead, DWrite, Push, Pop, Movso, Movsi, Spadd, Spinc, Spdec, Not, And, Booland, Or, Xor, Shl, Shr, Bitset, Neg, Inc, Dec, Add, Sub, Mul, Inv, Eqz, Eq, Gt, Gteq, Jmpoff, Cjmpoff, Cjmp, Call, Ret}
@@ -69,10 +69,6 @@ count (Err e) ns = ns
 -- how many of the words below n decode to each kind
 unfoldable pub kinds_below : ℕ → List ℕ
 kinds_below n = over (λ w. count (decode_of w)) n (replicate 43 0)
-
-abbrev pub sum : List ℕ → ℕ
-sum [] = 0
-sum (n ∷ ns) = n + sum ns
 
 -- how many of all words, with a row for each category of the enum
 abbrev pub kinds_of_all : List ℕ

@@ -4,7 +4,7 @@ use mathlib.Core.Path.{◌≡◌, refl}
 use mathlib.Core.Bool.{true}
 use mathlib.Core.List.{List, [], ◌∷◌}
 use Prim.Native.Nat.{◌<◌}
-use lib.Dec.{ltb}
+use borrow.Author.Rules.{rules}
 use borrow.Author.Tests.{ltb-true}
 use Rattle.instructions.specs.Reg.{gpr_number, gpr_at, spr_number, spr_at, dr_number, dr_at}
 use Rattle.instructions.specs.declared.reg.GeneralPurposeRegister.{GeneralPurposeRegister}
@@ -31,25 +31,15 @@ module _ {A : Type 0} where
 
   pub by_gprs : (f g : GeneralPurposeRegister → A) → gprs f ≡ gprs g → (r : GeneralPurposeRegister) → f r ≡ g r
   by_gprs f g e R0 = cc
-  by_gprs f g e R1 = cc
-  by_gprs f g e R2 = cc
-  by_gprs f g e R3 = cc
-  by_gprs f g e R4 = cc
-  by_gprs f g e R5 = cc
-  by_gprs f g e R6 = cc
-  by_gprs f g e R7 = cc
+  by_gprs f g e r = cc
 
   pub by_sprs : (f g : SpecialPurposeRegister → A) → sprs f ≡ sprs g → (r : SpecialPurposeRegister) → f r ≡ g r
   by_sprs f g e IP = cc
-  by_sprs f g e RP = cc
-  by_sprs f g e SP = cc
-  by_sprs f g e EF = cc
+  by_sprs f g e r = cc
 
   pub by_drs : (f g : DecimalRegister → A) → drs f ≡ drs g → (r : DecimalRegister) → f r ≡ g r
   by_drs f g e D0 = cc
-  by_drs f g e D1 = cc
-  by_drs f g e D2 = cc
-  by_drs f g e D3 = cc
+  by_drs f g e r = cc
 
 abbrev pub general : Sort GeneralPurposeRegister
 general = record { values = gprs; equal = by_gprs }
@@ -60,21 +50,9 @@ special = record { values = sprs; equal = by_sprs }
 abbrev pub decimal : Sort DecimalRegister
 decimal = record { values = drs; equal = by_drs }
 
--- a register is the one of its number, and how many there are
+-- a general register is the one of its number, and there are eight
 pub gpr_at_lem : (r : GeneralPurposeRegister) → gpr_at (gpr_number r) ≡ r
-gpr_at_lem r = by_gprs (λ r. gpr_at (gpr_number r)) (λ r. r) refl r
+gpr_at_lem r = search rules
 
 pub gpr_below : (r : GeneralPurposeRegister) → gpr_number r < 8
-gpr_below r = ltb-true _ _ (by_gprs (λ r. ltb (gpr_number r) 8) (λ r. true) refl r)
-
-pub spr_at_lem : (r : SpecialPurposeRegister) → spr_at (spr_number r) ≡ r
-spr_at_lem r = by_sprs (λ r. spr_at (spr_number r)) (λ r. r) refl r
-
-pub spr_below : (r : SpecialPurposeRegister) → spr_number r < 4
-spr_below r = ltb-true _ _ (by_sprs (λ r. ltb (spr_number r) 4) (λ r. true) refl r)
-
-pub dr_at_lem : (r : DecimalRegister) → dr_at (dr_number r) ≡ r
-dr_at_lem r = by_drs (λ r. dr_at (dr_number r)) (λ r. r) refl r
-
-pub dr_below : (r : DecimalRegister) → dr_number r < 4
-dr_below r = ltb-true _ _ (by_drs (λ r. ltb (dr_number r) 4) (λ r. true) refl r)
+gpr_below r = search rules
