@@ -9,12 +9,12 @@ use Rattle.std.proofs.lemmas.Bool.{agree_below, agree_below_at, eqb-true}
 use Rattle.std.specs.Prelude.{Result, Ok, Err}
 use Rattle.instructions.specs.Encoding.{encode_of}
 use Rattle.encoding_laws.specs.Reduced.{byte_of, reduced}
-use Rattle.instructions.specs.Reg.{gpr_number, gpr_at}
+use Rattle.instructions.specs.Reg.{gpr_number, gpr_at, gpr_at_lem}
 use Rattle.instructions.specs.declared.reg.GeneralPurposeRegister.{GeneralPurposeRegister}
 use Rattle.instructions.specs.declared.ins.Instruction.TheVariants.{Nop, Hlt, Mov, DMov, Putl, Puth, Read, Write, Spread, Spwrite, DRead, DWrite, Push, Pop, Movso, Movsi, Spadd, Spinc, Spdec, Not, And, Booland, Or, Xor, Shl, Shr, Bitset, Neg, Inc, Dec, Add, Sub, Mul, Inv, Eqz, Eq, Gt, Gteq, Jmpoff, Cjmpoff, Cjmp, Call, Ret}
 use borrow.Author.Tests.{lt-ltb, le-ltb}
 use Rattle.instructions.specs.Decoding.{decode_of, decode_bytes, no_instruction}
-use Rattle.instructions.proofs.RegLaws.{Sort, general, special, decimal, gpr_at_lem, gpr_below}
+use Rattle.instructions.proofs.RegLaws.{Sort, general, special, decimal, gpr_below}
 use Rattle.instructions.specs.declared.ins.Instruction.{Instruction}
 use Rattle.instructions.specs.declared.ins.encoding.Undecodable.{Undecodable}
 use Rattle.encoding_laws.specs.Inverse.{Inverse}

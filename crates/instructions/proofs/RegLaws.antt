@@ -1,12 +1,10 @@
 -- Laws of the registers: what holds of each of finitely many, and what their numbers say.
 -- Assumes nothing.
-use mathlib.Core.Path.{◌≡◌, refl}
-use mathlib.Core.Bool.{true}
+use mathlib.Core.Path.{◌≡◌}
 use mathlib.Core.List.{List, [], ◌∷◌}
 use Prim.Native.Nat.{◌<◌}
 use borrow.Author.Rules.{rules}
-use borrow.Author.Tests.{ltb-true}
-use Rattle.instructions.specs.Reg.{gpr_number, gpr_at, spr_number, spr_at, dr_number, dr_at}
+use Rattle.instructions.specs.Reg.{gpr_number}
 use Rattle.instructions.specs.declared.reg.GeneralPurposeRegister.{GeneralPurposeRegister}
 use Rattle.instructions.specs.declared.reg.GeneralPurposeRegister.TheVariants.{R0, R1, R2, R3, R4, R5, R6, R7}
 use Rattle.instructions.specs.declared.reg.SpecialPurposeRegister.{SpecialPurposeRegister}
@@ -50,9 +48,6 @@ special = record { values = sprs; equal = by_sprs }
 abbrev pub decimal : Sort DecimalRegister
 decimal = record { values = drs; equal = by_drs }
 
--- a general register is the one of its number, and there are eight
-pub gpr_at_lem : (r : GeneralPurposeRegister) → gpr_at (gpr_number r) ≡ r
-gpr_at_lem r = search rules
-
+-- there are eight general registers
 pub gpr_below : (r : GeneralPurposeRegister) → gpr_number r < 8
 gpr_below r = search rules

@@ -1,5 +1,5 @@
 -- The registers' numbers (document 01, Records).
-use Rattle.std.specs.Prelude.{ℕ, ◌%◌, [], ◌∷◌, ltb, get_or, if◌then◌else◌, Option, Some, None}
+use Rattle.std.specs.Prelude.{ℕ, ◌%◌, [], ◌∷◌, ltb, get_or, if◌then◌else◌, Option, Some, None, ◌≡◌, refl}
 use Rattle.instructions.specs.declared.reg.GeneralPurposeRegister.{GeneralPurposeRegister}
 use Rattle.instructions.specs.declared.reg.GeneralPurposeRegister.TheVariants.{R0, R1, R2, R3, R4, R5, R6, R7}
 use Rattle.instructions.specs.declared.reg.SpecialPurposeRegister.{SpecialPurposeRegister}
@@ -44,3 +44,16 @@ dr_at n = get_or (D0 ∷ D1 ∷ D2 ∷ D3 ∷ []) (n % 4) D3
 -- the register of the number n, of those that at gives for the numbers below count
 abbrev pub register_of : {R : Type 0} → ℕ → (ℕ → R) → ℕ → Option R
 register_of count at n = if ltb n count then Some (at n) else None
+
+-- a register is the one of its number
+pub gpr_at_lem : (r : GeneralPurposeRegister) → gpr_at (gpr_number r) ≡ r
+gpr_at_lem R0 = refl
+gpr_at_lem r = refl
+
+pub spr_at_lem : (r : SpecialPurposeRegister) → spr_at (spr_number r) ≡ r
+spr_at_lem IP = refl
+spr_at_lem r = refl
+
+pub dr_at_lem : (r : DecimalRegister) → dr_at (dr_number r) ≡ r
+dr_at_lem D0 = refl
+dr_at_lem r = refl

@@ -1,8 +1,8 @@
 // The registers, and the numbers that stand for them in a word.
 ghost use Rattle.std.specs.Prelude.{◌≡◌, ◌≤◌, ℕ};
-ghost use Rattle.std.proofs.Common.{rules};
+ghost use Rattle.std.proofs.Common.{lit≤};
 ghost use Rattle.instructions.specs.Bounded.{Bounded};
-ghost use Rattle.instructions.specs.Reg.{gpr_number, gpr_at, spr_number, spr_at, dr_number, dr_at, register_of};
+ghost use Rattle.instructions.specs.Reg.{gpr_number, gpr_at, gpr_at_lem, spr_number, spr_at, spr_at_lem, dr_number, dr_at, dr_at_lem, register_of};
 
 // A sort of registers, which have the numbers below their count.
 pub trait Register: Copy {
@@ -88,9 +88,9 @@ impl Register for GeneralPurposeRegister {
 
     const COUNT: u16 = 8;
 
-    ghost fits_byte = { Prim.search rules };
+    ghost fits_byte = { lit≤ tt };
 
-    ghost at_number = { Prim.search rules };
+    ghost at_number = { gpr_at_lem };
 
     fn encode(self) -> u16 {
         self as u16
@@ -119,9 +119,9 @@ impl Register for SpecialPurposeRegister {
 
     const COUNT: u16 = 4;
 
-    ghost fits_byte = { Prim.search rules };
+    ghost fits_byte = { lit≤ tt };
 
-    ghost at_number = { Prim.search rules };
+    ghost at_number = { spr_at_lem };
 
     fn encode(self) -> u16 {
         self as u16
@@ -146,9 +146,9 @@ impl Register for DecimalRegister {
 
     const COUNT: u16 = 4;
 
-    ghost fits_byte = { Prim.search rules };
+    ghost fits_byte = { lit≤ tt };
 
-    ghost at_number = { Prim.search rules };
+    ghost at_number = { dr_at_lem };
 
     fn encode(self) -> u16 {
         self as u16
