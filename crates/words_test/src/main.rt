@@ -5,9 +5,14 @@
 use instructions::{DR, GPR, Instruction, Register, SPR};
 use std::io;
 
-// The names of the rows, eight bytes each: the 43 kinds, then the rows that have a name below.
-const NAMES: [u8; 384] =
-    *b"nop     hlt     mov     dmov    putl    puth    read    write   spread  spwrite dread   dwrite  push    pop     movso   movsi   spadd   spinc   spdec   not     and     booland or      xor     shl     shr     bitset  neg     inc     dec     add     sub     mul     inv     eqz     eq      gt      gteq    jmpoff  cjmpoff cjmp    call    ret     other   wrong   general special decimal ";
+// The names of the rows: the 43 kinds, then the rows that have a name below.
+const NAMES: [&str; 48] = [
+    "nop", "hlt", "mov", "dmov", "putl", "puth", "read", "write", "spread", "spwrite", "dread",
+    "dwrite", "push", "pop", "movso", "movsi", "spadd", "spinc", "spdec", "not", "and", "booland",
+    "or", "xor", "shl", "shr", "bitset", "neg", "inc", "dec", "add", "sub", "mul", "inv", "eqz",
+    "eq", "gt", "gteq", "jmpoff", "cjmpoff", "cjmp", "call", "ret", "other", "wrong", "general",
+    "special", "decimal",
+];
 
 // No instruction's word.
 const OTHER: u8 = 43;
@@ -24,27 +29,24 @@ const DECIMAL: u8 = 47;
 fn main(rt: HostRuntime) -> io::Result<()> {
     // A count for every byte, so that a row needs no bound.
     let mut counts = [0; 256];
-    count_words(&mut counts);
-    for row in 0..48 {
-        rt.write_all(&NAMES[row * 8..row * 8 + 8])?;
-        println!(rt; "{}", counts[row])?;
+    for w in 0..=u16::MAX {
+        count(&mut counts, w);
+    }
+    for (name, count) in NAMES.iter().zip(counts) {
+        println!(rt; "{name:<8}{count}")?;
     }
     Ok(())
 }
 
-fn count_words(counts: &mut [u64; 256]) {
-    let mut w: u32 = 0;
-    while w < 65536 {
-        count(counts, w as u16);
-        w += 1;
-    }
-}
-
+// Counts a word in the row of its kind, and in that of each sort of which it decodes to a register whose number it is again.
 fn count(counts: &mut [u64; 256], w: u16) {
+    let general = GPR::decode(w).is_some_and(|r| r.number() == w);
+    let special = SPR::decode(w).is_some_and(|r| r.encode() == w);
+    let decimal = DR::decode(w).is_some_and(|r| r.encode() == w);
     add(counts, row(w), true);
-    add(counts, GENERAL, is_general(w));
-    add(counts, SPECIAL, is_special(w));
-    add(counts, DECIMAL, is_decimal(w));
+    add(counts, GENERAL, general);
+    add(counts, SPECIAL, special);
+    add(counts, DECIMAL, decimal);
 }
 
 // Counts one more in a row, or none.
@@ -56,30 +58,9 @@ fn add(counts: &mut [u64; 256], row: u8, one: bool) {
 // The row in which a word counts: that of its kind, or that it is of none or does not come back.
 fn row(w: u16) -> u8 {
     match Instruction::decode(w) {
-        Ok(i) => { if i.encode() == w { kind(i) } else { WRONG } }
-        Err(e) => { if e.word == w { OTHER } else { WRONG } }
-    }
-}
-
-// Whether a word decodes to a register whose number is that word again.
-fn is_general(w: u16) -> bool {
-    match GPR::decode(w) {
-        Some(r) => r.number() == w,
-        None => false,
-    }
-}
-
-fn is_special(w: u16) -> bool {
-    match SPR::decode(w) {
-        Some(r) => r.encode() == w,
-        None => false,
-    }
-}
-
-fn is_decimal(w: u16) -> bool {
-    match DR::decode(w) {
-        Some(r) => r.encode() == w,
-        None => false,
+        Ok(ins) if ins.encode() == w => kind(ins),
+        Err(e) if e.word == w => OTHER,
+        _ => WRONG,
     }
 }
 
