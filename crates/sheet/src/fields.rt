@@ -16,16 +16,19 @@ pub enum Record {
     End(u32),
 }
 
-// The record that a word is, by its kind and bits 27..16 at once. (Ranges of the whole word halve the speed of loading.)
+// The record that a word is, by its kind and bits 27..16 at once. Word records, of which a sheet has most, are told first and by a test of their own:
+// as an arm of the match they are compared after places, and loading takes a fifth longer. With ranges of the whole word it takes twice as long.
 #[tactic(auto, unfolding(crate::specs::Record::record_of))]
 pub fn record_of(w: u32) -> Result<Record, SheetRefusal>
     ensures { result ≡ record_of w }
 {
     let upper = w / 0x10000;
     let low = (w % 0x10000) as u16;
+    if w - low as u32 == 0x20000000 {
+        return Ok(Record::Word(low));
+    }
     match upper {
         0x1000 => Ok(Record::Place(low)),
-        0x2000 => Ok(Record::Word(low)),
         0x3000..=0x300B => Ok(Record::Preset((upper % 0x10) as u8, low)),
         0x300C..=0x300F => Err(SheetRefusal::UnknownRegister),
         0x1001..=0x3FFF => Err(SheetRefusal::NonzeroBit),
