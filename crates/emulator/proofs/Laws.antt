@@ -1,8 +1,8 @@
 -- Laws of what is lent: the host tests, and what a call leaves.
-use Rattle.std.specs.Prelude.{◌≡◌, ℕ, ◌<◌, ◌≤◌, Bool, true, false, eqb, List, length, Ok, Err}
+use Rattle.std.specs.Prelude.{◌≡◌, ℕ, ◌<◌, ◌≤◌, true, false, eqb, List, length, Ok, Err}
 use mathlib.Core.Path.{sym}
 use native.Mathlib.Omega.{arith}
-use borrow.Author.Tests.{lt-ltb, le-ltb, ltb-false, eqb-true, eq-eqb, ne_eqb}
+use borrow.Author.Tests.{lt-ltb, le-ltb, eqb-true, eq-eqb, ne_eqb}
 use Rattle.emulator.specs.Memory.{Memory, lent, refused_length, length_test}
 use Rattle.emulator.specs.Outcome.{refusal_number}
 use Rattle.emulator.specs.Machine.{refusal_of}
@@ -21,14 +21,6 @@ length_none n l = let none : n ≡ 0 = omega arith in rw (eq-eqb n 0 none)
 pub length_past : (n : ℕ) → 65537 ≤ n → refused_length n ≡ true
 unfolding refused_length
 length_past n l = rw (ne_eqb n 0 (λ z. omega arith), lt-ltb 65536 n l)
-
--- what host test 1 passes has at most 65,536 words
-pub length_within : (n : ℕ) → refused_length n ≡ false → n ≤ 65536
-unfolding refused_length
-length_within n =
-    if_elim (λ (b : Bool). b ≡ false → n ≤ 65536) (eqb n 0)
-    (λ _ e. absurd (let z : ◌≡◌ {A = ℕ} 0 1 = cc in omega arith))
-    (λ _ e. ltb-false 65536 n e)
 
 module _ (n : ℕ) where
   pub length_passes : {u : Unit {0}} → Ok u ≡ length_test n → refused_length n ≡ false

@@ -1,4 +1,3 @@
-pub mod Fill
 pub mod Stores
 pub mod Marks
 pub mod Laws

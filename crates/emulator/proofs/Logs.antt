@@ -1,14 +1,14 @@
 -- Laws of the log's buffer.
-use Rattle.std.specs.Prelude.{◌≡◌, ◌⊎◌, ℕ, ◌+◌, ◌-◌, ◌<◌, ◌≤◌, ltb, List, ◌++◌, length}
+use Rattle.std.specs.Prelude.{◌≡◌, ◌⊎◌, ℕ, ◌+◌, ◌<◌, ◌≤◌, ltb, List, ◌++◌, length}
 use mathlib.Core.Logic.{⊎_elim, inl, inr}
 use mathlib.Core.Path.{sym, ap, ◌∙◌}
 use native.Mathlib.Nat.{zero-add}
 use native.Mathlib.Omega.{arith}
 use lib.ListN.{length-append}
 use lib.Seq.{sets, length-sets}
-use borrow.Author.Tests.{ltb-true, ltb-false, lt-ltb}
+use borrow.Author.Tests.{ltb-true, ltb-false}
 use Rattle.instructions.proofs.Cases.{by_test}
-use Rattle.emulator.specs.Log.{entry_of, is_full, words, Written, written, written_of}
+use Rattle.emulator.specs.Log.{entry_of, words, Written, written, written_of}
 use Rattle.emulator.specs.Parts.{pushed, Logs}
 use Rattle.emulator.specs.declared.log.Purpose.{Purpose}
 use Rattle.emulator.proofs.Stores.{sets_append, sets_front}
@@ -16,14 +16,6 @@ use Rattle.emulator.proofs.Stores.{sets_append, sets_front}
 module _ {b₀ b : List ℕ} {k₀ k : ℕ} {l : List ℕ} (h : Logs b₀ k₀ b k l) where
   fits_or_past : (k₀ + length l ≤ length b₀) ⊎ (length b₀ < k₀ + length l)
   fits_or_past = by_test (ltb (length b₀) (k₀ + length l)) (λ t. inr (ltb-true _ _ t)) (λ f. inl (ltb-false _ _ f))
-
-  -- whether the log is full, by the count and the buffer as they are
-  pub logs_full : is_full (words (length b)) k ≡ is_full (words (length b₀)) (k₀ + length l)
-  logs_full =
-      ⊎_elim
-      (λ fits. rw (h.size, h.count fits))
-      (λ past. let low : length b₀ < k + 2 = h.past past in rw (h.size, lt-ltb (length b₀ - k) 4 (omega arith), lt-ltb (length b₀ - (k₀ + length l)) 4 (omega arith)))
-      fits_or_past
 
   -- a read logged
   pub logs_pushed : (p : Purpose) (a w : ℕ) {k' : ℕ} {b' : List ℕ} → written k' b' ≡ pushed p a w (written k b) → Logs b₀ k₀ b' k' (l ++ entry_of p a w)

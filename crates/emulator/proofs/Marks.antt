@@ -5,31 +5,9 @@ use mathlib.Core.Logic.{⊎_elim, inl, inr}
 use native.Mathlib.Omega.{arith}
 use lib.ListN.{length-set}
 use lib.Seq.{get_or-set_same, get_or-set_other, set_out}
-use borrow.Author.Tests.{eq-eqb, ne_eqb, eqb-true, eqb-false, ltb-true, ltb-false}
+use borrow.Author.Tests.{eqb-true, eqb-false, ltb-true, ltb-false}
 use Rattle.emulator.specs.Memory.{lent, was_read, was_written, read_mark, write_mark, mark_read, mark_write, Below, Kept}
 use Rattle.instructions.proofs.Cases.{by_test, if_elim}
-
--- the definitions, by their tests
-module _ (m : ℕ) where
-  pub read_written : was_written m ≡ 1 → m ≡ read_mark m
-  unfolding read_mark
-  read_written e = rw (eq-eqb (was_written m) 1 e)
-
-  pub read_again : (was_written m ≡ 1 → ⊥) → was_read m ≡ 1 → m ≡ read_mark m
-  unfolding read_mark
-  read_again n e = rw (ne_eqb (was_written m) 1 n, eq-eqb (was_read m) 1 e)
-
-  pub read_first : (was_written m ≡ 1 → ⊥) → (was_read m ≡ 1 → ⊥) → m + 1 ≡ read_mark m
-  unfolding read_mark
-  read_first n e = rw (ne_eqb (was_written m) 1 n, ne_eqb (was_read m) 1 e)
-
-  pub write_again : was_written m ≡ 1 → m ≡ write_mark m
-  unfolding write_mark
-  write_again e = rw (eq-eqb (was_written m) 1 e)
-
-  pub write_first : (was_written m ≡ 1 → ⊥) → m + 2 ≡ write_mark m
-  unfolding write_mark
-  write_first n = rw (ne_eqb (was_written m) 1 n)
 
 -- a property of a mark after a read, by the three cases
 read_cases : (m : ℕ) (P : ℕ → Type 0) → (was_written m ≡ 1 → P m) → (was_read m ≡ 1 → P m) → ((was_written m ≡ 1 → ⊥) → (was_read m ≡ 1 → ⊥) → P (m + 1)) → P (read_mark m)

@@ -1,19 +1,10 @@
--- Runs of stores, `sets`: what is left of a run is the whole run, so that a loop which stores keeps `sets now i rest ≡ sets first 0 whole`.
-use Rattle.std.specs.Prelude.{◌≡◌, ℕ, zero, suc, ◌+◌, ◌-◌, ◌<◌, ◌≤◌, List, [], ◌∷◌, ◌++◌, length, get_or, drop, set, replicate}
+-- Runs of stores, `sets`, and the elements that a loop takes four at a time.
+use Rattle.std.specs.Prelude.{◌≡◌, ℕ, suc, ◌+◌, ◌<◌, ◌≤◌, List, [], ◌∷◌, ◌++◌, length, get_or, drop, set}
 use mathlib.Core.Path.{◌∙◌}
 use native.Mathlib.Numerals.{add-one, add-two, add-three, add-four}
 use native.Mathlib.Nat.{add-zero, zero-add, suc-add, add-suc}
 use native.Mathlib.Omega.{arith}
-use lib.ListN.{drop_of_length-le}
 use lib.Seq.{sets, sets-eq, drop-cons}
-
--- the next store of a copy of s
-pub sets_next : (s d d₀ : List ℕ) (i : ℕ) → i < length s → sets d i (drop i s) ≡ d₀ → sets (set d i (get_or s i 0)) (i + 1) (drop (i + 1) s) ≡ d₀
-sets_next s d d₀ i l e = rw add-one (rw (drop-cons s i 0 l) at e)
-
--- the last one
-pub sets_done : (s d d₀ : List ℕ) (i : ℕ) → length s ≤ i → sets d i (drop i s) ≡ d₀ → d ≡ d₀
-sets_done s d d₀ i l e = rw (drop_of_length-le s l) at e
 
 -- one run after another
 pub sets_append : (xs ys d : List ℕ) (i : ℕ) → sets d i (xs ++ ys) ≡ sets (sets d i xs) (i + length xs) ys
@@ -23,11 +14,6 @@ sets_append (x ∷ xs) ys d i = rw (add-suc, ← suc-add) (sets_append xs ys (se
 -- a run from the front
 pub sets_front : (vs d : List ℕ) → length vs ≤ length d → sets d 0 vs ≡ vs ++ drop (length vs) d
 sets_front vs d l = let h : 0 + length vs ≤ length d = omega arith in sets-eq vs d 0 h ∙ rw (zero-add (length vs))
-
-pub drop_replicate : (n k v : ℕ) → drop k (replicate n v) ≡ replicate (n - k) v
-drop_replicate n zero v = let e : n - 0 ≡ n = omega arith in rw e
-drop_replicate zero (suc k) v = let e : 0 - suc k ≡ 0 = omega arith in rw e
-drop_replicate (suc n) (suc k) v = let e : suc n - suc k ≡ n - k = omega arith in rw e (drop_replicate n k v)
 
 -- the next four elements
 pub four : (l : List ℕ) (i : ℕ) → i + 4 ≤ length l

@@ -1,6 +1,6 @@
 -- Two runs agree: they go side by side over the same core and marks, while their memories are alike. A word is the same in both if it was
 -- written, or if the first run's final marks say that it is read. Nothing here looks at an instruction.
-use Rattle.std.specs.Prelude.{◌≡◌, ◌≢◌, ℕ, ◌<◌, ltb, List, [], length, get_or, set, replicate, Result, Ok, Err}
+use Rattle.std.specs.Prelude.{◌≡◌, ◌≢◌, ℕ, zero, suc, ◌<◌, ltb, List, [], length, get_or, set, replicate, Result, Ok, Err}
 use mathlib.Core.Path.{refl, sym, ap, ◌∙◌, subst}
 use mathlib.Core.Logic.{⊎_elim}
 use native.Mathlib.Omega.{arith}
@@ -15,13 +15,18 @@ use Rattle.emulator.specs.Machine.{Plan, plan_of, Access, none, load, store, sto
 use Rattle.emulator.specs.declared.core_record.Core.{Core}
 use Rattle.emulator.specs.declared.refusal.LogEnd.TheVariants.{Full}
 use Rattle.emulator.specs.declared.stop.Stop.{Stop}
-use Rattle.emulator.proofs.Fill.{get_d_zeros}
 use Rattle.emulator.proofs.Marks.{written_cases, same_or_not, read_sets, write_sets, written_read}
 use Rattle.emulator.proofs.Laws.{accepted_marked}
 use Rattle.emulator.proofs.Whole.{accepted_run}
 use Rattle.emulator.proofs.Keeps.{Leads, kept_leads}
 use Rattle.run_laws.proofs.Simulation.{ReadFits, AccessFits, Same, Simulates, twin_run}
 use Rattle.run_laws.proofs.Logs.{logged_plain}
+
+-- a list of zeros has 0 at every place, and past its end the default is 0 too
+get_d_zeros : (n k : ℕ) → ◌≡◌ {A = ℕ} (get_or (replicate n 0) k 0) 0
+get_d_zeros zero k = refl
+get_d_zeros (suc n) zero = refl
+get_d_zeros (suc n) (suc k) = get_d_zeros n k
 
 -- The two runs: the words that they start with are M and N, and the first one's final marks F.
 
