@@ -20,7 +20,8 @@ pub fn address_word(purpose: Purpose, address: u16) -> u32
     }
 }
 
-// Logs a read in a buffer that has so many log words, and answers how many it has then. A run tests first that there is room.
+// Logs a read in a buffer that has so many log words, and answers how many it has then. A run tests first that there is room. (Hosts lend the buffer,
+// so it is no `Vec`.)
 pub fn push(buffer: &mut [u32], count: usize, purpose: Purpose, address: u16, word: u16) -> usize
     requires { count ≤ length buffer.old }
     ensures { written result buffer.new ≡ pushed purpose address word (written count buffer.old) }

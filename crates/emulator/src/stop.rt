@@ -28,7 +28,7 @@ impl From<Undecodable> for Stop {
     }
 }
 
-// A stop by its number.
+// A stop by its number, as hosts get it.
 #[derive(Clone, Copy)]
 pub struct Fault {
     pub number: u8,

@@ -1,4 +1,5 @@
-// What an instruction asks for, in plain numbers: at most one change of the registers and one memory access, or a stop.
+// What an instruction asks for, in plain numbers: at most one change of the registers and one memory access, or a stop. The registers are given one by
+// one, as the core record stands above, in the emulator.
 ghost use Rattle.std.specs.Prelude.{◌≡◌};
 ghost use Rattle.execute.specs.Execute.{execute_of, jumped_of, to_spr};
 ghost use Rattle.execute.specs.Registers.{registers, gpr_of, spr_of};
@@ -6,6 +7,7 @@ ghost use Rattle.execute.specs.Registers.{registers, gpr_of, spr_of};
 use crate::{flags, word};
 use instructions::{GPR, Instruction, Register, SPR};
 
+// The stops stand among the rest: in a `Result`, forty of the forty-three rows would say `Ok`.
 #[derive(Clone, Copy)]
 pub enum Effect {
     None,

@@ -31,7 +31,7 @@ fn words(rt: &impl Print, list: &[u16]) -> io::Result<()> {
     Ok(())
 }
 
-// < if the first comes first, > if the second does.
+// < if the first comes first, > if the second does. (`Ordering` is std's, so this is no `Display`.)
 fn sign(order: Ordering) -> char {
     match order {
         Ordering::Less => '<',

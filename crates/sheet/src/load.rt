@@ -40,7 +40,8 @@ pub fn load_words(words: &[u16], memory: &mut [u16]) -> Load
     }
 }
 
-// The tests of a sheet's records for a memory of `size` words, in order.
+// The tests of a sheet's records for a memory of `size` words, in order. (`rest` is a slice and not an iterator's, since the end record asks whether
+// more records follow.)
 #[tactic(auto, using(crate::proofs::SheetLaws::testing))]
 fn test_records(sheet: &[u32], size: usize) -> Result<(), SheetRefusal>
     ensures { result ≡ tested_of (sheet_reads sheet.now size) }

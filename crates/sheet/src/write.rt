@@ -64,7 +64,8 @@ fn put_presets(core: Core, sheet: &mut [u32])
     }
 }
 
-// The records of a word at an address after the word before it, put at `at`; answers the place past them.
+// The records of a word at an address after the word before it, put at `at`; answers the place past them. (Hosts lend the sheet, so it
+// is no `Vec`.)
 #[tactic(auto, using(crate::proofs::WriteLaws::one_word))]
 fn put_word(sheet: &mut [u32], at: usize, address: usize, before: u16, word: u16) -> usize
     requires { (at + length (records_at address before word) ≤ length sheet.old) × (address < 65536) }

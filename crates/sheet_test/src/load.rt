@@ -3,15 +3,10 @@ use crate::show;
 use sheet::Load;
 use std::io;
 
-// Each sheet of a list, in which its number of records stands before it.
-pub fn sheets(rt: &impl Print, list: &[u32]) -> io::Result<()> {
-    let mut rest = list;
-    while let Some((n, after)) = rest.split_first() {
-        let Some((records, after)) = after.split_at_checked(*n as usize) else {
-            break;
-        };
+// Each sheet of a list.
+pub fn sheets(rt: &impl Print, list: &[&[u32]]) -> io::Result<()> {
+    for records in list {
         load(rt, records)?;
-        rest = after;
     }
     Ok(())
 }

@@ -1,4 +1,4 @@
-// Printing.
+// Printing. Most of it is of arrays and of std's `Result`, for which a crate has no `Display` to give.
 use emulator::Core;
 use sheet::SheetRefusal;
 use std::io;

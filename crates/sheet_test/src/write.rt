@@ -27,9 +27,9 @@ fn write(rt: &impl Print, memory: &[u16], buffer: &mut [u32], other: &mut [u16])
     Ok(())
 }
 
-// Each memory of four words of a list, with the records, and the buffer past them.
-pub fn small(rt: &impl Print, list: &[u16]) -> io::Result<()> {
-    for memory in list.chunks_exact(4) {
+// Each memory of a list, with the records, and the buffer past them.
+pub fn small(rt: &impl Print, list: &[[u16; 4]]) -> io::Result<()> {
+    for memory in list {
         write_small(rt, memory)?;
     }
     Ok(())
