@@ -9,7 +9,8 @@ use line::line_of;
 use std::io;
 use std::io::Read;
 
-// Reads until `buf` is full or the input ends, and answers how many bytes it put at the start of `buf`.
+// Reads until `buf` is full or the input ends, and answers how many bytes it put at the start of `buf`. (`read_to_end` wants a `Vec`, and
+// there is no heap.)
 fn read_full<R: Read>(reader: &mut R, buf: &mut [u8]) -> io::Result<usize>
     ensures bound { ReadsAtMost result buf.new }
     ensures bytes { IfOk result (λ n. Consumes (R.remaining reader.old) (R.remaining reader.new) (take n buf.new)) }

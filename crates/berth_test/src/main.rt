@@ -62,7 +62,7 @@ const COUNT: [u32; 2] = [0x20000001, 0xF0000000];
 // The count is tested before the records after the end.
 const COUNT_FIRST: [u32; 3] = [0x20000001, 0xF0000000, 0x00000000];
 
-// Prints the line of an input after its label.
+// Prints the line of an input after its label. (Functions and not a `Display`, since a line is bytes.)
 fn show(rt: &impl Print, label: &[u8], input: &[u8]) -> io::Result<()> {
     rt.write_all(label)?;
     rt.write_all(b": ")?;

@@ -11,7 +11,7 @@ use emulator::{Core, End, LogEnd, Run, check_length, turns};
 
 mod tape;
 
-// The answer of a replay that shows no run: the core as it was given, and why.
+// The answer of a replay that shows no run: the core as it was given, and why. (The emulator's own, `refused`, is of a refusal only, and takes as many lines to call.)
 fn no_run(core: Core, end: End) -> Run
     ensures { result ≡ record { core = core; steps = 0; end = end } }
 {

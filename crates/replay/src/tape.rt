@@ -13,7 +13,8 @@ fn is_entry(purpose: Purpose, address: u16, named: u32, value: u32) -> bool
     named == address_word(purpose, address) && value / 0x10000 == 0x5000
 }
 
-// The length of the memory that was run on, the words that are still to be read, and whether the reads so far are the log's.
+// The length of the memory that was run on, the words that are still to be read, and whether the reads so far are the log's. (A flag and not
+// an `Option` of the words: the definition's tape reads on after a mismatch, so there are words then too.)
 #[derive(Drop)]
 pub struct LogTape<'a> {
     pub size: usize,

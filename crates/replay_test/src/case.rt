@@ -28,7 +28,7 @@ struct State {
     memory: Memory,
 }
 
-// How a step or a run comes out: its class, and the number and value of a fault (0 where there is none).
+// How a step or a run comes out: its class, and the number and value of a fault (0 where there is none). These are the numbers that are recorded.
 #[derive(Clone, Copy, PartialEq, Eq)]
 struct Outcome {
     class: u16,
@@ -36,6 +36,7 @@ struct Outcome {
     value: u16,
 }
 
+// A case, with the fields that are recorded: a step has a limit too, which says nothing.
 #[derive(Clone, Copy)]
 pub struct Case {
     is_step: bool,

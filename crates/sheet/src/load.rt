@@ -94,9 +94,7 @@ fn apply_sheet(sheet: &[u32], memory: &mut [u16]) -> Core
     memory.fill(0);
     let mut core = Core::new();
     let mut address: usize = 0;
-    let mut rest = sheet;
-    while let Some((w, after)) = rest.split_first() {
-        rest = after;
+    for w in sheet {
         let Ok(record) = record_of(*w) else {
             break;
         };

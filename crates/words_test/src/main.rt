@@ -64,7 +64,7 @@ fn row(w: u16) -> u8 {
     }
 }
 
-// The row of an instruction's kind.
+// The row of an instruction's kind: its place in `NAMES`. (No cast gives it, as instructions have operands.)
 fn kind(ins: Instruction) -> u8 {
     match ins {
         Instruction::Nop => 0,
