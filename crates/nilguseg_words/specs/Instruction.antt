@@ -1,6 +1,6 @@
 -- The numbers of an instruction for a host: its kind from 0 to 42 in the order of the enum, and its operands. Documents name no such
 -- numbers; a register has its own (document 01, Records).
-use Rattle.std.specs.Prelude.{ℕ, ◌+◌, ◌*◌, ◌^◌, List, [], ◌∷◌, ◌≡◌, get_or, Option, Some, None, option_map, Result, Ok, Err}
+use Rattle.std.specs.Prelude.{ℕ, ◌+◌, ◌*◌, ◌^◌, ◌<◌, List, [], ◌∷◌, ◌≡◌, ltb, get_or, Option, Some, None, option_map, Result, Ok, Err, if◌then◌else◌}
 use Rattle.std.specs.Option.{option_zip}
 use Rattle.instructions.specs.Decoding.{undecodable}
 use Rattle.instructions.specs.Encoding.{encode_of}
@@ -173,10 +173,12 @@ abbrev pub word_of : Option Instruction → ℕ
 word_of (Some i) = encode_of i
 word_of None = 0x10000
 
+-- an operand's number is a byte, also where the kind has no such operand; of another the answer is 0x10000 too
 abbrev pub encoded_number : ℕ → ℕ → ℕ → ℕ
-encoded_number k a b = word_of (instruction_of k a b)
+encoded_number k a b = if ltb a 256 then (if ltb b 256 then word_of (instruction_of k a b) else 0x10000) else 0x10000
 
--- what decoding says of an instruction, encoding takes: its numbers encode to its word
+-- what decoding says of an instruction, encoding takes: its numbers, which are bytes as in every value of the code, encode to its word
 abbrev pub NumbersEncode : Type 0
 NumbersEncode =
-    (i : Instruction) → encoded_number (numbers_of i).kind (numbers_of i).first (numbers_of i).second ≡ encode_of i
+    (i : Instruction) → (numbers_of i).first < 256 → (numbers_of i).second < 256
+    → encoded_number (numbers_of i).kind (numbers_of i).first (numbers_of i).second ≡ encode_of i

@@ -23,6 +23,7 @@ pub extern "C" fn nilguseg_decode(word: u16) -> u32
 }
 
 // The word of an instruction, or 0x10000 where the numbers name none.
+#[tactic(auto, using(crate::proofs::Laws::of_bytes))]
 #[unsafe(no_mangle)]
 pub extern "C" fn nilguseg_encode(kind: u8, first: u8, second: u8) -> u32
     ensures { result ≡ encoded_number kind first second }
