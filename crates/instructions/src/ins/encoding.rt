@@ -7,22 +7,12 @@ ghost use Rattle.instructions.specs.Decoding.{operands_of, decode_of};
 use crate::ins::Instruction;
 use crate::reg::{DR, GPR, Register, SPR};
 use opcode::InstructionOpcode;
-use std::error::Error;
-use std::fmt;
 
 // A word that stands for no instruction.
 #[derive(Clone, Copy, Debug, PartialEq, Eq)]
 pub struct Undecodable {
     pub word: u16,
 }
-
-impl fmt::Display for Undecodable {
-    fn fmt<W: fmt::Write>(&self, f: &mut fmt::Formatter<W>) -> fmt::Result {
-        write!(f, "the word {:#06x} stands for no instruction", self.word)
-    }
-}
-
-impl Error for Undecodable {}
 
 impl Instruction {
     pub fn encode(self) -> u16
