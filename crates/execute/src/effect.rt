@@ -219,8 +219,7 @@ pub fn execute(
 pub fn read_gpr(gprs: &[u16; 8], reg: GPR) -> u16
     ensures { result ≡ gpr_of gprs.now reg }
 {
-    let i = reg.encode() as usize;
-    gprs[i]
+    gprs[reg.encode() as usize]
 }
 
 // The word in a special register, of the four.
