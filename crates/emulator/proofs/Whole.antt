@@ -3,7 +3,6 @@ use Rattle.std.specs.Prelude.{◌≡◌, ℕ, ◌+◌, List, [], length, replica
 use mathlib.Core.Path.{refl, sym, ap, ◌∙◌}
 use native.Mathlib.Nat.{zero-add}
 use native.Mathlib.Omega.{arith}
-use lib.ListN.{length-replicate}
 use borrow.Author.Tests.{eq-eqb, ne_eqb}
 use Rattle.instructions.proofs.Cases.{by_test, if_elim}
 use Rattle.emulator.specs.Core.{is_halted}
@@ -18,7 +17,6 @@ use Rattle.emulator.specs.declared.cycle.End.{End}
 use Rattle.emulator.specs.declared.refusal.LogEnd.{LogEnd}
 use Rattle.emulator.specs.declared.refusal.Refusal.{Refusal}
 use Rattle.emulator.specs.declared.stop.Stop.{Stop}
-use Rattle.emulator.proofs.Laws.{accepted}
 use Rattle.emulator.proofs.Logs.{logs_kept}
 use Rattle.emulator.proofs.Runs.{stop_elim}
 use Rattle.emulator.proofs.Sizes.{run_fits}
@@ -69,9 +67,6 @@ module _ (c : Core) (mem ms : List ℕ) (most : ℕ) where
     logged_accepted b t h =
         let w = run_fits memory_store plan_of (length b) LogEnd.Full most 0 c (lent mem ms₀) [] (omega arith) in
         rw (simp zero-add at t, logs_kept (simp zero-add at h) w) (ap (in_buffer (logging_in b) b) (whole_run (logging_in b)))
-
-pub cleared_marked : (mem ms : List ℕ) {ms₀ : List ℕ} → 0 ≡ refusal_of (lent mem ms) → ms₀ ≡ replicate (length ms) 0 → length ms₀ ≡ length mem
-cleared_marked mem ms z e = ap length e ∙ (length-replicate (length ms) 0 ∙ accepted mem ms z)
 
 -- a cycle isn't ended by the limit
 abbrev Settles : Outcome → Type 0

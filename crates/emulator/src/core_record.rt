@@ -163,6 +163,7 @@ impl Core {
     }
 
     // One step: it adds to the marks without clearing them. Where a host test refuses, and where the core is halted, nothing changes.
+    #[tactic(auto, using(crate::proofs::Laws::accepted))]
     pub fn step(self, memory: &mut [u16], marks: &mut [u8]) -> Step
         ensures { turn (answer_of result.answer) result.core (lent memory.new marks.new) ≡ step_of plan_of self (lent memory.old marks.old) }
     {
@@ -180,6 +181,7 @@ impl Core {
     }
 
     // Runs the core: all marks are set to 0, then steps are made until it halts, the limit is reached, or a step faults.
+    #[tactic(auto, using(crate::proofs::Laws::accepted))]
     pub fn run(self, memory: &mut [u16], marks: &mut [u8], limit: u32) -> Run
         ensures { ran (end_of result.end) result.steps result.core (lent memory.new marks.new) ≡ run_of plan_of self (lent memory.old marks.old) limit }
     {
@@ -191,6 +193,7 @@ impl Core {
     }
 
     // The run with a log of its reads, which is written to the front of the lent one. It also ends where fewer than four words are free.
+    #[tactic(auto, using(crate::proofs::Laws::accepted))]
     pub fn run_logged(
         self,
         memory: &mut [u16],

@@ -1,12 +1,9 @@
 -- `Core::run`: the host tests, and the turns from marks that are all 0.
-use Rattle.emulator.proofs.Whole.{run_refused, run_accepted, cleared_marked}
+use Rattle.emulator.proofs.Whole.{run_refused, run_accepted}
 use Rattle.emulator.proofs.core_record.Core.run.Goals as goal
 
 pub returns-in-Err : goal.returns-in-Err
 returns-in-Err c = rw c.refused.ensures (run_refused _ _ _ _ _ c.in-Err.ensures)
-
-pub plain_turns-requires : goal.plain_turns-requires
-plain_turns-requires c = cleared_marked _ _ c.in_default.ensures (c.fill.ensures.after (λ y e. e))
 
 pub returns : goal.returns
 returns c = run_accepted _ _ _ _ c.in_default.ensures (c.fill.ensures.after (λ y e. e)) c.plain_turns.ensures

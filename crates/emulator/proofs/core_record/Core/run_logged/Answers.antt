@@ -1,15 +1,12 @@
 -- `Core::run_logged`: the host tests, and the turns from marks that are all 0 and an empty log.
 use mathlib.Core.Path.{sym}
-use Rattle.std.proofs.Common.{rules, arith}
+use Rattle.std.proofs.Common.{rules}
 use Rattle.emulator.specs.Machine.{ran}
-use Rattle.emulator.proofs.Whole.{relogged, logged_refused, logged_accepted, cleared_marked}
+use Rattle.emulator.proofs.Whole.{relogged, logged_refused, logged_accepted}
 use Rattle.emulator.proofs.core_record.Core.run_logged.Goals as goal
 
 pub returns-in-Err : goal.returns-in-Err
 returns-in-Err c = rw c.refused-run.ensures (logged_refused _ _ _ _ _ c.in-Err.ensures _)
-
-pub invariant_of-lent : goal.invariant_of-lent
-invariant_of-lent c = record { marked = cleared_marked _ _ c.in_default.ensures (c.fill.ensures.after (λ y e. e)); within = omega arith }
 
 pub returns : goal.returns
 returns c =

@@ -1,13 +1,9 @@
 -- `Core::step`: the host tests, and a run of at most one turn.
-use Rattle.emulator.proofs.Laws.{accepted}
 use Rattle.emulator.proofs.Whole.{step_refused, step_answered}
 use Rattle.emulator.proofs.core_record.Core.step.Goals as goal
 
 pub returns-in-Err : goal.returns-in-Err
 returns-in-Err c = step_refused _ _ _ _ c.in-Err.ensures
-
-pub plain_turns-run-requires : goal.plain_turns-run-requires
-plain_turns-run-requires c = accepted _ _ c.in_default.ensures
 
 pub returns : goal.returns
 returns c = step_answered _ _ _ _ _ c.in_default.ensures c.plain_turns-run.ensures c.answered.ensures
