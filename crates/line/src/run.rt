@@ -83,10 +83,11 @@ fn run_input(input: &[u8]) -> Result<Run, SheetRefusal>
     run_sheet(&sheet[..count])
 }
 
-// The line of the input's bytes.
+// The line of the input's bytes: 128 at most.
 #[tactic(auto, unfolding(crate::specs::Line::line_of))]
 pub fn line_of(input: &[u8]) -> Line
-    ensures { result ≡ line_of input.now }
+    ensures line { result ≡ line_of input.now }
+    ensures upper_bound { length result ≤ 128 }
 {
     match run_input(input) {
         Ok(run) => ran_line(run),
