@@ -1,9 +1,9 @@
 -- Laws of the log in memory's place: when it begins with what a run logs, and when it is that.
-use Rattle.std.specs.Prelude.{◌≡◌, ℕ, ◌-◌, ◌/◌, ◌%◌, ◌<◌, ◌≤◌, Bool, true, false, ◌&&◌, List, [], ◌∷◌, ◌++◌, length, get_or, take, drop, eqb}
+use Rattle.std.specs.Prelude.{◌≡◌, ℕ, ◌/◌, ◌%◌, ◌<◌, ◌≤◌, Bool, true, false, ◌&&◌, List, [], ◌∷◌, ◌++◌, length, get_or, take, drop, eqb}
 use mathlib.Core.Path.{refl, sym, ap, ◌∙◌}
 use native.Mathlib.Omega.{arith}
-use lib.ListN.{length-append, drop_of_length-le, length-drop}
-use lib.Seq.{drop-drop, take-length}
+use lib.ListN.{length-append, drop_of_length-le}
+use lib.Seq.{drop-drop}
 use borrow.Author.Tests.{eq-eqb, ne_eqb, eqb-true, eqb-false}
 use Rattle.instructions.proofs.Cases.{by_test}
 use Rattle.emulator.specs.Log.{address_word, value_word, entry_of}
@@ -17,10 +17,6 @@ unfolding begins
 begins_append [] m k = refl
 begins_append (x ∷ l) m [] = refl
 begins_append (x ∷ l) m (y ∷ k) = by_test (eqb x y) (λ t. rw t (begins_append l m k)) (λ f. rw f)
-
--- what a slice from n on is
-pub from_on : (n : ℕ) (r : List ℕ) → take (length r - n) (drop n r) ≡ drop n r
-from_on n r = rw (← (length-drop n r), take-length)
 
 and_assoc : (a b c : Bool) → ((a && b) && c) ≡ (a && (b && c))
 and_assoc true b c = refl
@@ -71,16 +67,17 @@ module _ (b : Bool) (l k : List ℕ) (p : Purpose) (a : ℕ) {m : Bool} {r : Lis
   both : (w : ℕ) → (b && begins (l ++ entry_of p a w) k) ≡ (m && begins (entry_of p a w) r)
   both w = rw (begins_append l (entry_of p a w) k, ← at, ← (and_assoc b (begins l k) (begins (entry_of p a w) r)), so)
 
-  two : (r : List ℕ) → 2 ≤ length r → begins (entry_of p a (get_or r 1 0 % 65536)) r ≡ is_entry p a (get_or r 0 0) (get_or r 1 0)
+  two : (r : List ℕ) → 2 ≤ length r → begins (entry_of p a (get_or (take 2 r) 1 0 % 65536)) r ≡ is_entry p a (get_or (take 2 r) 0 0) (get_or (take 2 r) 1 0)
   unfolding is_entry begins
   two [] h = absurd (omega arith)
   two (x ∷ []) h = absurd (omega arith)
   two (x ∷ y ∷ r) h = refl
 
-  pub noted_two : {e : Bool} → 2 ≤ length r → e ≡ is_entry p a (get_or r 0 0) (get_or r 1 0)
-      → (drop 2 r ≡ drop (length (l ++ entry_of p a (get_or r 1 0 % 65536))) k) × ((m && e) ≡ (b && begins (l ++ entry_of p a (get_or r 1 0 % 65536)) k))
-  noted_two long h =
-      (sym (past (get_or r 1 0 % 65536)), ap (λ (x : Bool). m && x) (h ∙ sym (two r long)) ∙ sym (both (get_or r 1 0 % 65536)))
+  pub noted_two : {entry rest : List ℕ} {e : Bool} → entry ≡ take 2 r → rest ≡ drop 2 r → 2 ≤ length r → e ≡ is_entry p a (get_or entry 0 0) (get_or entry 1 0)
+      → (rest ≡ drop (length (l ++ entry_of p a (get_or entry 1 0 % 65536))) k) × ((m && e) ≡ (b && begins (l ++ entry_of p a (get_or entry 1 0 % 65536)) k))
+  noted_two front after long h =
+      let w = get_or (take 2 r) 1 0 % 65536 in
+      rw front (after ∙ sym (past w), ap (λ (x : Bool). m && x) ((rw front at h) ∙ sym (two r long)) ∙ sym (both w))
 
   pub noted_short : length r < 2 → ([] ≡ drop (length (l ++ entry_of p a 0)) k) × (false ≡ (b && begins (l ++ entry_of p a 0) k))
   unfolding begins

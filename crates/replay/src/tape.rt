@@ -47,14 +47,13 @@ impl Store for LogTape<'_> {
     #[tactic(auto, unfolding(crate::specs::Replay::read_tape))]
     fn read(&mut self, purpose: Purpose, address: u16) -> Result<u16, Stop> {
         place(self.size, address)?;
-        if self.rest.len() < 2 {
+        let Some((entry, rest)) = self.rest.split_first_chunk::<2>() else {
             self.rest = &[];
             self.matches = false;
             return Ok(0);
-        }
-        let named = self.rest[0];
-        let value = self.rest[1];
-        self.rest = &self.rest[2..];
+        };
+        let [named, value] = *entry;
+        self.rest = rest;
         self.matches &= is_entry(purpose, address, named, value);
         Ok((value % 0x10000) as u16)
     }
