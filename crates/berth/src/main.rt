@@ -31,5 +31,5 @@ fn main(rt: HostRuntime) -> io::Result<()> {
     // One byte more than the longest input that is accepted tells that there are too many.
     let mut input = [0u8; 32769];
     let read = read_full(&mut rt.stdin(), &mut input)?;
-    rt.write_all(line_of(&input[..read]).as_bytes())
+    rt.write_all(line_of(&input[..read]).as_slice())
 }

@@ -1,32 +1,34 @@
 // From the input's bytes to the line.
 ghost use Rattle.std.specs.Prelude.{◌≡◌, [], ◌∷◌, ◌++◌, ◌≤◌, length};
+ghost use Rattle.arrayvec.specs.ArrayVec.{array_vec_len};
+ghost use Rattle.sheet.specs.Refusal.{sheet_refusal_number};
 ghost use Rattle.line.specs.Line.{fields, state_of, refused_line, run_line, sheet_line, line_of};
 
-use crate::line::Line;
+use crate::line::{Line, push_field, push_fields, push_word};
 use emulator::{End, Fault, Run};
 use sheet::{SheetRefusal, load_sheet, records};
 
 // Pushes what a run leaves, and the line feed: at most 84 bytes.
 #[tactic(auto, using(crate::proofs::LineLaws::state_laws), unfolding(crate::specs::Line::fields))]
 fn push_state(line: &mut Line, run: Run)
-    requires { length line.old ≤ 44 }
-    ensures { line.new ≡ line.old ++ (fields (state_of run.steps run.core) ++ 10 ∷ []) }
+    requires { array_vec_len line.old ≤ 44 }
+    ensures { line.new.items ≡ line.old.items ++ (fields (state_of run.steps run.core) ++ 10 ∷ []) }
 {
     let core = run.core;
-    line.push_field(run.steps);
-    line.push_fields(&[core.ip, core.rp, core.sp, core.ef]);
-    line.push_fields(&core.gprs);
+    push_field(line, run.steps);
+    push_fields(line, &[core.ip, core.rp, core.sp, core.ef]);
+    push_fields(line, &core.gprs);
     line.push(b'\n');
 }
 
 // `refused` and the number.
 #[tactic(auto, using(crate::proofs::LineLaws::field_laws), unfolding(crate::specs::Line::row, crate::specs::Line::fields))]
-fn refused_line(number: u8) -> Line
-    ensures { result ≡ refused_line number }
+fn refused_line(refusal: SheetRefusal) -> Line
+    ensures { result.items ≡ refused_line (sheet_refusal_number refusal) }
 {
     let mut line = Line::new();
-    line.push_word(b"refused");
-    line.push_field(u32::from(number));
+    push_word(&mut line, b"refused");
+    push_field(&mut line, u32::from(refusal.number()));
     line.push(b'\n');
     line
 }
@@ -34,26 +36,26 @@ fn refused_line(number: u8) -> Line
 // The line of a run.
 #[tactic(auto, unfolding(crate::specs::Line::end_line, crate::specs::Line::row, crate::specs::Line::fields))]
 fn ran_line(run: Run) -> Line
-    ensures { result ≡ run_line (Ok run) }
+    ensures { result.items ≡ run_line (Ok run) }
 {
     let mut line = Line::new();
     match run.end {
         End::Halted => {
-            line.push_word(b"halted");
+            push_word(&mut line, b"halted");
             push_state(&mut line, run);
         }
         End::Limit => {
-            line.push_word(b"limit");
+            push_word(&mut line, b"limit");
             push_state(&mut line, run);
         }
         End::Fault(stop) => {
             let fault = Fault::from(stop);
-            line.push_word(b"fault");
-            line.push_fields(&[u16::from(fault.number), fault.value]);
+            push_word(&mut line, b"fault");
+            push_fields(&mut line, &[u16::from(fault.number), fault.value]);
             push_state(&mut line, run);
         }
         End::Refused(refusal) => {
-            return refused_line(refusal.number());
+            return refused_line(SheetRefusal::Host(refusal));
         }
         // no run here has a log
         End::Log(_) => {}
@@ -86,11 +88,11 @@ fn run_input(input: &[u8]) -> Result<Run, SheetRefusal>
 // The line of the input's bytes: 128 at most.
 #[tactic(auto, unfolding(crate::specs::Line::line_of))]
 pub fn line_of(input: &[u8]) -> Line
-    ensures line { result ≡ line_of input.now }
-    ensures upper_bound { length result ≤ 128 }
+    ensures line { result.items ≡ line_of input.now }
+    ensures upper_bound { array_vec_len result ≤ 128 }
 {
     match run_input(input) {
         Ok(run) => ran_line(run),
-        Err(refusal) => refused_line(refusal.number()),
+        Err(refusal) => refused_line(refusal),
     }
 }
