@@ -63,14 +63,14 @@ fn check(memory: &[u16], marks: &[u8]) -> Result<(), Refusal>
     Ok(())
 }
 
-// A run that a host test refuses.
-fn refused(core: Core, refusal: Refusal) -> Run
-    ensures { result ≡ record { core = core; steps = 0; end = End.Refused refusal } }
+// A call that runs nothing: the core as it was given, and why.
+pub fn no_run(core: Core, end: End) -> Run
+    ensures { result ≡ record { core = core; steps = 0; end = end } }
 {
     Run {
         core,
         steps: 0,
-        end: End::Refused(refusal),
+        end,
     }
 }
 
@@ -186,7 +186,7 @@ impl Core {
         ensures { ran (end_of result.end) result.steps result.core (lent memory.new marks.new) ≡ run_of plan_of self (lent memory.old marks.old) limit }
     {
         if let Err(refusal) = check(memory, marks) {
-            return refused(self, refusal);
+            return no_run(self, End::Refused(refusal));
         }
         marks.fill(0);
         plain_turns(self, memory, marks, limit)
@@ -204,7 +204,7 @@ impl Core {
         ensures { ran_logged (ran (end_of result.run.end) result.run.steps result.run.core (lent memory.new marks.new)) (written result.logged log.new) ≡ run_logged_of plan_of self (lent memory.old marks.old) limit log.old }
     {
         if let Err(refusal) = check(memory, marks) {
-            let run = refused(self, refusal);
+            let run = no_run(self, End::Refused(refusal));
             return LoggedRun { run, logged: 0 };
         }
         marks.fill(0);

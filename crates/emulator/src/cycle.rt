@@ -74,7 +74,8 @@ fn cycle<S: Store>(core: &mut Core, store: &mut S) -> Result<(), Stop>
     obey(core, effect, store)
 }
 
-// Cycles up to the limit: each turn tests halt first, then the limit, then the log. A cycle that faults isn't counted.
+// Cycles up to the limit: each turn tests halt first, then the limit, then the log. A cycle that faults isn't counted. (A `for` up to the limit would test
+// the limit before halt.)
 pub fn turns<S: Store>(mut core: Core, store: &mut S, limit: u32) -> Run
     ensures run { ran (end_of result.end) result.steps result.core (S.seen store.new) ≡ (run_until S.store plan_of (S.over store.old) S.why limit 0 core (S.seen store.old) []).result }
     ensures noted { S.Noted store.old store.new (run_until S.store plan_of (S.over store.old) S.why limit 0 core (S.seen store.old) []).log }

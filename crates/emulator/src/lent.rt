@@ -4,7 +4,7 @@ ghost use Rattle.emulator.specs.Outcome.{answer_of};
 ghost use Rattle.emulator.specs.Memory.{lent};
 ghost use Rattle.emulator.specs.Machine.{plan_of, turn, step_of};
 
-use crate::core_record::{Answer, Core, Step};
+use crate::core_record::{Answer, Core};
 
 // One step of the core, which is changed where it stands.
 pub fn step_lent(core: &mut Core, memory: &mut [u16], marks: &mut [u8]) -> Answer
@@ -13,12 +13,4 @@ pub fn step_lent(core: &mut Core, memory: &mut [u16], marks: &mut [u8]) -> Answe
     let step = core.step(memory, marks);
     *core = step.core;
     step.answer
-}
-
-// The same for callers that hold the core by value.
-pub fn step_by_lent(mut core: Core, memory: &mut [u16], marks: &mut [u8]) -> Step
-    ensures { turn (answer_of result.answer) result.core (lent memory.new marks.new) ≡ step_of plan_of core (lent memory.old marks.old) }
-{
-    let answer = step_lent(&mut core, memory, marks);
-    Step { core, answer }
 }

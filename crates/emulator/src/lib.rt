@@ -11,9 +11,9 @@ mod refusal;
 mod stop;
 mod store;
 
-pub use core_record::{Answer, Core, LoggedRun, Run, Step};
+pub use core_record::{Answer, Core, LoggedRun, Run, Step, no_run};
 pub use cycle::{End, turns};
-pub use lent::{step_by_lent, step_lent};
+pub use lent::step_lent;
 pub use log::{Purpose, address_word};
 pub use memory::place;
 pub use refusal::{LogEnd, Refusal, check_length};

@@ -3,7 +3,7 @@ ghost use Rattle.std.specs.Prelude.{◌≡◌, ◌≤◌, length};
 ghost use Rattle.emulator.specs.Log.{address_word, written};
 ghost use Rattle.emulator.specs.Parts.{pushed};
 
-// What a read is made for.
+// What a read is made for. (It goes beside the address, as a write has an address alone.)
 #[derive(Clone, Copy, Debug, PartialEq, Eq)]
 pub enum Purpose {
     Fetch,

@@ -1,4 +1,5 @@
-// Why a call is refused, and how a run ends by its log: enums with the documents' numbers.
+// Why a call is refused, and how a run ends by its log: enums with the documents' numbers. (`number` is a method, as a register's is: `u8::from` wouldn't
+// say what it is the number of.)
 ghost use Rattle.std.specs.Prelude.{◌≡◌};
 ghost use Rattle.emulator.specs.Memory.{length_test};
 ghost use Rattle.emulator.specs.Outcome.{refusal_number, log_end_number};

@@ -7,20 +7,9 @@ ghost use Rattle.emulator.specs.Machine.{plan_of};
 ghost use Rattle.replay.specs.Replay.{replayed, replay_of};
 
 use crate::tape::LogTape;
-use emulator::{Core, End, LogEnd, Run, check_length, turns};
+use emulator::{Core, End, LogEnd, Run, check_length, no_run, turns};
 
 mod tape;
-
-// The answer of a replay that shows no run: the core as it was given, and why. (The emulator's own, `refused`, is of a refusal only, and takes as many lines to call.)
-fn no_run(core: Core, end: End) -> Run
-    ensures { result ≡ record { core = core; steps = 0; end = end } }
-{
-    Run {
-        core,
-        steps: 0,
-        end,
-    }
-}
 
 // The run that made the log, seen again: its end, steps and registers. `size` is the length of the memory that it ran on. Words of the log
 // that are left over are a mismatch too.

@@ -6,7 +6,7 @@ use Rattle.emulator.proofs.Whole.{relogged, logged_refused, logged_accepted}
 use Rattle.emulator.proofs.core_record.Core.run_logged.Goals as goal
 
 pub returns-in-Err : goal.returns-in-Err
-returns-in-Err c = rw c.refused-run.ensures (logged_refused _ _ _ _ _ c.in-Err.ensures _)
+returns-in-Err c = rw c.no_run-run.ensures (logged_refused _ _ _ _ _ c.in-Err.ensures _)
 
 pub returns : goal.returns
 returns c =
