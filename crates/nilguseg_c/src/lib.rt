@@ -1,5 +1,5 @@
-// What C and Rust hosts call to load, run and write, and to compare word lists: each export is the function of `nilguseg` of its name, with its
-// clauses. A slice is a pointer and then a length, an array a pointer.
+// What C and Rust hosts call to load, run and write, and to compare word lists. A slice is a pointer and then a length, an array a pointer.
+// `Instruction::decode` must have no caller here but the cycle, or it is not inlined into the run: see `nilguseg_words`.
 #![tactic(auto)]
 
 ghost use Rattle.std.specs.Prelude.{◌≡◌, [], ◌∷◌};
@@ -10,12 +10,16 @@ ghost use Rattle.sheet.specs.Load.{load_words_of, load_sheet_of};
 ghost use Rattle.sheet.specs.Write.{write_sheet_of};
 ghost use Rattle.nilguseg.specs.Host.{core_from, call, step_call, run_call, load_call, write_call, order_number, part_call};
 
+use nilguseg::{core_of, order_number, put_load, put_run, put_step, written_number};
+use order::{compare, earlier_part};
+use sheet::{load_sheet, load_words, write_sheet};
+
 // One step of the core.
 #[unsafe(no_mangle)]
 pub extern "C" fn nilguseg_step(core: &mut [u16; 12], memory: &mut [u16], marks: &mut [u8]) -> u32
     ensures { call result (core.new ∷ memory.new ∷ marks.new ∷ []) ≡ step_call (step_of plan_of (core_from core.old) (lent memory.old marks.old)) }
 {
-    nilguseg::nilguseg_step(core, memory, marks)
+    put_step(core_of(*core).step(memory, marks), core)
 }
 
 // A run of the core, of at most `limit` steps.
@@ -28,7 +32,7 @@ pub extern "C" fn nilguseg_run(
 ) -> u64
     ensures { call result (core.new ∷ memory.new ∷ marks.new ∷ []) ≡ run_call (run_of plan_of (core_from core.old) (lent memory.old marks.old) limit) }
 {
-    nilguseg::nilguseg_run(core, memory, marks, limit)
+    put_run(core_of(*core).run(memory, marks, limit), core)
 }
 
 // Loads a plain word list.
@@ -40,7 +44,7 @@ pub extern "C" fn nilguseg_load_words(
 ) -> u32
     ensures { call result (core.new ∷ memory.new ∷ []) ≡ load_call (load_words_of words.now memory.old) }
 {
-    nilguseg::nilguseg_load_words(core, words, memory)
+    put_load(load_words(words, memory), core)
 }
 
 // Loads a rule sheet.
@@ -52,7 +56,7 @@ pub extern "C" fn nilguseg_load_sheet(
 ) -> u32
     ensures { call result (core.new ∷ memory.new ∷ []) ≡ load_call (load_sheet_of sheet.now memory.old) }
 {
-    nilguseg::nilguseg_load_sheet(core, sheet, memory)
+    put_load(load_sheet(sheet, memory), core)
 }
 
 // Writes the rule sheet of a core and memory.
@@ -60,7 +64,7 @@ pub extern "C" fn nilguseg_load_sheet(
 pub extern "C" fn nilguseg_write_sheet(core: &[u16; 12], memory: &[u16], sheet: &mut [u32]) -> u64
     ensures { call result (sheet.new ∷ []) ≡ write_call (write_sheet_of (core_from core.now) memory.now sheet.old) }
 {
-    nilguseg::nilguseg_write_sheet(core, memory, sheet)
+    written_number(write_sheet(core_of(*core), memory, sheet))
 }
 
 // Which of two word lists comes first.
@@ -68,7 +72,7 @@ pub extern "C" fn nilguseg_write_sheet(core: &[u16; 12], memory: &[u16], sheet: 
 pub extern "C" fn nilguseg_compare(first: &[u16], second: &[u16]) -> u32
     ensures { result ≡ order_number (order_of first.now second.now) }
 {
-    nilguseg::nilguseg_compare(first, second)
+    order_number(compare(first, second))
 }
 
 // The part of the earlier list from the first place where they differ on.
@@ -76,5 +80,7 @@ pub extern "C" fn nilguseg_compare(first: &[u16], second: &[u16]) -> u32
 pub extern "C" fn nilguseg_earlier(first: &[u16], second: &[u16], from: &mut usize) -> u32
     ensures { call result ((from.new ∷ []) ∷ []) ≡ part_call (part_of first.now second.now) }
 {
-    nilguseg::nilguseg_earlier(first, second, from)
+    let part = earlier_part(first, second);
+    *from = part.from;
+    order_number(part.order)
 }
