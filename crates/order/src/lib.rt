@@ -1,4 +1,5 @@
-// Which of two word lists comes first. They are compared at the first place where they differ, the shorter taken as followed by zeros.
+// Which of two word lists comes first. They are compared at the first place where they differ, the shorter taken as followed by zeros. (Both lists go
+// side by side, as in std's `cmp`; a struct of two would be taken apart in each function.)
 #![tactic(auto)]
 
 ghost use Rattle.std.specs.Prelude.{◌≡◌, min, length};

@@ -17,7 +17,8 @@ fn put_records(bytes: &[u8], out: &mut [u32])
     }
 }
 
-// The records of a program's input, put into `out`, and how many they are. The longest input has 8,192.
+// The records of a program's input, put into `out`, and how many they are. The longest input has 8,192. (It answers no slice of them, which would still
+// hold `out`: the clause says what all of it has then.)
 #[tactic(auto, using(crate::proofs::InputLaws::records_in_front), unfolding(crate::specs::Input::input_records))]
 pub fn records(bytes: &[u8], out: &mut [u32; 8192]) -> Result<usize, SheetRefusal>
     ensures { wrote result out.new ≡ input_of bytes.now out.old }
