@@ -118,21 +118,13 @@ const NOP: u32 = 0x20000000;
 // The end record of 8,191 of them.
 const NOPS_END: u32 = 0xF0001FFF;
 
-// Prints the line of the first `count` bytes after its label.
-fn show_first(rt: &impl Print, label: &[u8], bytes: &[u8], count: usize) -> io::Result<()> {
-    match bytes.get(..count) {
-        Some(bytes) => show(rt, label, bytes),
-        None => Ok(()),
-    }
-}
-
 fn show_short(rt: &impl Print) -> io::Result<()> {
     let bytes = [0u8; 4];
-    show_first(rt, b"0 bytes", &bytes, 0)?;
-    show_first(rt, b"1 byte", &bytes, 1)?;
-    show_first(rt, b"2 bytes", &bytes, 2)?;
-    show_first(rt, b"3 bytes", &bytes, 3)?;
-    show_first(rt, b"4 bytes", &bytes, 4)
+    show(rt, b"0 bytes", &bytes[..0])?;
+    show(rt, b"1 byte", &bytes[..1])?;
+    show(rt, b"2 bytes", &bytes[..2])?;
+    show(rt, b"3 bytes", &bytes[..3])?;
+    show(rt, b"4 bytes", &bytes)
 }
 
 fn show_long(rt: &impl Print) -> io::Result<()> {
@@ -141,10 +133,10 @@ fn show_long(rt: &impl Print) -> io::Result<()> {
     records[8191] = NOPS_END.to_le_bytes();
     records[8192] = [0; 4];
     let bytes = records.as_flattened();
-    show_first(rt, b"32764 bytes", bytes, 32764)?;
-    show_first(rt, b"32768 bytes", bytes, 32768)?;
-    show_first(rt, b"32769 bytes", bytes, 32769)?;
-    show_first(rt, b"32772 bytes", bytes, 32772)
+    show(rt, b"32764 bytes", &bytes[..32764])?;
+    show(rt, b"32768 bytes", &bytes[..32768])?;
+    show(rt, b"32769 bytes", &bytes[..32769])?;
+    show(rt, b"32772 bytes", bytes)
 }
 
 fn main(rt: HostRuntime) -> io::Result<()> {
