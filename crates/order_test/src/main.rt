@@ -69,6 +69,7 @@ fn zeros_but(room: &mut [u16], n: usize, at: usize, w: u16) -> &[u16] {
 }
 
 // Two such lists: how long the part is, and its first word.
+// (Each is told by its length, a place and a word: a list of 70,000 words spelled out would be no plainer, and there is no heap.)
 fn long(rt: &impl Print, n: usize, m: usize, at: usize, v: u16, w: u16) -> io::Result<()> {
     let mut first = [0; 70000];
     let mut second = [0; 70000];
