@@ -1,7 +1,8 @@
 // One recorded case: what a step or a run over 32 words starts with, and what the Rust made of it.
-ghost use Rattle.std.specs.Prelude.{◌≤◌, ◌+◌};
+ghost use Rattle.std.specs.Prelude.{◌≡◌, ◌≤◌, ◌+◌};
+ghost use Rattle.emulator.specs.Outcome.{stop_of, fault};
 
-use emulator::{Answer, Core, End, Fault, Run, Stop, step_by_lent};
+use emulator::{Answer, Core, End, Fault, Run, Stop, step_lent};
 use instructions::{GPR, Register, SPR};
 use std::array;
 
@@ -49,7 +50,8 @@ pub struct Case {
 
 // The words of a case, low byte first.
 fn words_of(bytes: &[u8; SIZE]) -> [u16; WORDS] {
-    array::from_fn(|i| u16::from_le_bytes([bytes[i * 2], bytes[i * 2 + 1]]))
+    let (pairs, _) = bytes.as_chunks::<2>();
+    array::from_fn(|i| u16::from_le_bytes(pairs[i]))
 }
 
 // The words from a place on.
@@ -112,6 +114,20 @@ fn has_flags(core: Core, ef: u16) -> bool {
         && changed.set_cond(cond) == core
 }
 
+// A fault has class 2, at a step and at a run.
+impl From<Stop> for Outcome {
+    ghost from_gives = { λ s o. (o.class ≡ 2) × (stop_of s ≡ fault o.number o.value) };
+
+    fn from(stop: Stop) -> Outcome {
+        let fault = Fault::from(stop);
+        Outcome {
+            class: 2,
+            number: fault.number as u16,
+            value: fault.value,
+        }
+    }
+}
+
 impl Outcome {
     fn ended(class: u16) -> Self {
         Outcome {
@@ -121,21 +137,13 @@ impl Outcome {
         }
     }
 
-    fn fault(stop: Stop) -> Self {
-        let fault = Fault::from(stop);
-        Outcome {
-            class: 2,
-            number: fault.number as u16,
-            value: fault.value,
-        }
-    }
-
-    // The classes of a step: 0 stepped, 1 halted, 2 fault. No case is refused.
+    // The classes of a step: 0 stepped, 1 halted, 2 fault. No case is refused. (Functions and no `TryFrom`: a step and a run number their classes differently,
+    // and `None` means that no case is such.)
     fn of_step(answer: Answer) -> Option<Self> {
         match answer {
             Answer::Stepped => Some(Self::ended(0)),
             Answer::Halted => Some(Self::ended(1)),
-            Answer::Fault(stop) => Some(Self::fault(stop)),
+            Answer::Fault(stop) => Some(Self::from(stop)),
             Answer::Refused(_) => None,
         }
     }
@@ -145,7 +153,7 @@ impl Outcome {
         match end {
             End::Halted => Some(Self::ended(0)),
             End::Limit => Some(Self::ended(1)),
-            End::Fault(stop) => Some(Self::fault(stop)),
+            End::Fault(stop) => Some(Self::from(stop)),
             End::Refused(_) | End::Log(_) => None,
         }
     }
@@ -182,9 +190,10 @@ impl Case {
     // A step of a core that is lent, which makes the step of a core by value.
     fn steps_so(&self) -> bool {
         let mut memory = self.start.memory;
-        let step = step_by_lent(self.start.core(), &mut memory.words, &mut memory.marks);
-        Outcome::of_step(step.answer) == Some(self.outcome)
-            && self.end.has_core(step.core)
+        let mut core = self.start.core();
+        let answer = step_lent(&mut core, &mut memory.words, &mut memory.marks);
+        Outcome::of_step(answer) == Some(self.outcome)
+            && self.end.has_core(core)
             && memory == self.end.memory
     }
 
