@@ -37,11 +37,17 @@ struct Outcome {
     value: u16,
 }
 
-// A case, with the fields that are recorded: a step has a limit too, which says nothing.
+// What is asked of the machine: a step, or a run to a limit.
+#[derive(Clone, Copy)]
+enum Asked {
+    Step,
+    Run(u32),
+}
+
+// A case. A step has a limit and a number of steps recorded too, which say nothing.
 #[derive(Clone, Copy)]
 pub struct Case {
-    is_step: bool,
-    limit: u32,
+    asked: Asked,
     start: State,
     outcome: Outcome,
     steps: u32,
@@ -162,28 +168,32 @@ impl Outcome {
 impl Case {
     pub fn new(bytes: &[u8; SIZE]) -> Self {
         let words = words_of(bytes);
+        let [kind, limit, mark] = part::<3>(&words, 0);
+        let [class, number, value, steps] = part::<4>(&words, 47);
         let mut marks = [0; 32];
         marks.copy_from_slice(&bytes[190..]);
         Case {
-            is_step: words[0] == 0,
-            limit: words[1] as u32,
-            start: State::new(&words, 3, [(words[2] % 256) as u8; 32]),
-            outcome: Outcome {
-                class: words[47],
-                number: words[48],
-                value: words[49],
+            asked: if kind == 0 {
+                Asked::Step
+            } else {
+                Asked::Run(limit as u32)
             },
-            steps: words[50] as u32,
+            start: State::new(&words, 3, [(mark % 256) as u8; 32]),
+            outcome: Outcome {
+                class,
+                number,
+                value,
+            },
+            steps: steps as u32,
             end: State::new(&words, 51, marks),
         }
     }
 
     // Whether this machine answers as the Rust did.
     pub fn is_met(&self) -> bool {
-        if self.is_step {
-            self.steps_so()
-        } else {
-            self.runs_so() && self.is_seen_again()
+        match self.asked {
+            Asked::Step => self.steps_so(),
+            Asked::Run(limit) => self.runs_so(limit) && self.is_seen_again(limit),
         }
     }
 
@@ -197,25 +207,25 @@ impl Case {
             && memory == self.end.memory
     }
 
-    fn runs_so(&self) -> bool {
+    fn runs_so(&self, limit: u32) -> bool {
         let mut memory = self.start.memory;
         let core = self.start.core();
-        let run = core.run(&mut memory.words, &mut memory.marks, self.limit);
+        let run = core.run(&mut memory.words, &mut memory.marks, limit);
         self.is_run(run) && memory == self.end.memory
     }
 
     // The same run with a log, and its replay: both end as the Rust did.
-    fn is_seen_again(&self) -> bool {
+    fn is_seen_again(&self, limit: u32) -> bool {
         let mut memory = self.start.memory;
         let mut log = [0; LOG];
         let core = self.start.core();
-        let logged = core.run_logged(&mut memory.words, &mut memory.marks, self.limit, &mut log);
+        let logged = core.run_logged(&mut memory.words, &mut memory.marks, limit, &mut log);
         let Some(log) = log.get(..logged.logged) else {
             return false;
         };
         self.is_run(logged.run)
             && memory == self.end.memory
-            && self.is_run(replay::replay(core, memory.words.len(), self.limit, log))
+            && self.is_run(replay::replay(core, memory.words.len(), limit, log))
     }
 
     fn is_run(&self, run: Run) -> bool {
