@@ -297,6 +297,8 @@ fn calls(lo: u8) -> InstructionOpcode
     }
 }
 
+// The next three stay apart: in one function with the bits as a const parameter, most calls needed laws of the masks, in more text.
+
 // A general register at q, and nothing else: 00000qqq.
 fn single(lo: u8, opcode: InstructionOpcode) -> InstructionOpcode
     ensures { result ≡ single_of opcode lo }
@@ -323,10 +325,7 @@ fn paired(lo: u8, opcode: InstructionOpcode) -> InstructionOpcode
 fn general(lo: u8, opcode: InstructionOpcode) -> InstructionOpcode
     ensures { result ≡ general_of opcode lo }
 {
-    match lo % 16 {
-        0x0..=0x7 => opcode,
-        _ => InstructionOpcode::Undecodable,
-    }
+    general_or_decimal(lo, opcode, InstructionOpcode::Undecodable)
 }
 
 // A general or a decimal register in the low four bits: 0qqq, 10dd.
