@@ -1,7 +1,7 @@
 // The words of the instructions.
-ghost use Rattle.std.specs.Prelude.{◌≡◌};
+ghost use Rattle.std.specs.Prelude.{◌≡◌, ◌+◌, ◌*◌};
 ghost use Rattle.instructions.specs.Bounded.{Bounded};
-ghost use Rattle.instructions.specs.Encoding.{encode_of, pair_of, slot_of, immediate_of};
+ghost use Rattle.instructions.specs.Encoding.{encode_of, place, slot_of, immediate_of};
 ghost use Rattle.instructions.specs.Decoding.{operands_of, decode_of};
 
 use crate::ins::Instruction;
@@ -23,7 +23,7 @@ impl Instruction {
             Instruction::Nop => 0x0000,
             Instruction::Hlt => 0xFFFF,
             Instruction::Mov { dest, src } => 0x2100 + pair(src, dest),
-            Instruction::DMov { dest, src } => 0x2108 + (src.encode() * 16 + dest.encode()),
+            Instruction::DMov { dest, src } => 0x2108 + pair(src, dest),
 
             // Immediate loads
             Instruction::Putl { reg, imm } => 0x1000 + immediate(reg, imm),
@@ -34,14 +34,14 @@ impl Instruction {
             Instruction::Write { addr, val } => 0x2080 + pair(addr, val),
             Instruction::Spread { val, offset } => 0x3000 + slot(val, offset),
             Instruction::Spwrite { offset, val } => 0x3080 + slot(val, offset),
-            Instruction::DRead { val, addr } => 0x2008 + (addr.encode() * 16 + val.encode()),
-            Instruction::DWrite { addr, val } => 0x2088 + (addr.encode() * 16 + val.encode()),
+            Instruction::DRead { val, addr } => 0x2008 + pair(addr, val),
+            Instruction::DWrite { addr, val } => 0x2088 + pair(addr, val),
             Instruction::Push { val } => 0x23D0 + val.encode(),
             Instruction::Pop { val } => 0x23D8 + val.encode(),
 
             // Special-purpose registers
-            Instruction::Movso { dest, src } => 0x2180 + (src.encode() * 16 + dest.encode()),
-            Instruction::Movsi { dest, src } => 0x21C0 + (dest.encode() * 16 + src.encode()),
+            Instruction::Movso { dest, src } => 0x2180 + pair(src, dest),
+            Instruction::Movsi { dest, src } => 0x21C0 + pair(dest, src),
             Instruction::Spadd { val } => 0x21D8 + val.encode(),
             Instruction::Spinc => 0x22D0,
             Instruction::Spdec => 0x22D1,
@@ -90,9 +90,9 @@ impl Instruction {
     }
 }
 
-// Two general registers at their places: p in bits 6..4, q in bits 2..0.
-fn pair(p: GPR, q: GPR) -> u16
-    ensures { Bounded result (pair_of p q) 128 }
+// Two registers at their places: p in bits 6..4, q in bits 2..0.
+fn pair<P: Register, Q: Register>(p: P, q: Q) -> u16
+    ensures { Bounded result (place (P.number p) (Q.number q)) (P.COUNT * 16 + Q.COUNT) }
 {
     p.encode() * 16 + q.encode()
 }
