@@ -1,10 +1,10 @@
 // The numbers of the instructions' kinds and operands.
 ghost use Rattle.std.specs.Prelude.{◌≡◌};
 ghost use Rattle.std.specs.Option.{option_zip};
-ghost use Rattle.instructions.specs.Reg.{gpr_number, register_of};
+ghost use Rattle.instructions.specs.Reg.{register_of};
 ghost use Rattle.nilguseg_words.specs.Instruction.{numbers, numbers_of, packed, instruction_of};
 
-use instructions::{GPR, Instruction, Register};
+use instructions::{Instruction, Register};
 
 // The number of a register.
 fn number<R: Register>(reg: R) -> u8
@@ -26,14 +26,16 @@ fn registers<P: Register, Q: Register>(first: u8, second: u8) -> Option<(P, Q)>
     register(first).zip(register(second))
 }
 
+// A kind and two operands are three numbers everywhere, as hosts have them: a struct of the three would be taken apart at once.
 fn numbers(kind: u8, first: u8, second: u8) -> u32
     ensures { result ≡ packed (numbers kind first second) }
 {
     kind as u32 * 0x10000 + first as u32 * 0x100 + second as u32
 }
 
-fn gprs(kind: u8, first: GPR, second: GPR) -> u32
-    ensures { result ≡ packed (numbers kind (gpr_number first) (gpr_number second)) }
+// The same of two registers.
+fn operands<P: Register, Q: Register>(kind: u8, first: P, second: Q) -> u32
+    ensures { result ≡ packed (numbers kind (P.number first) (Q.number second)) }
 {
     numbers(kind, number(first), number(second))
 }
@@ -46,54 +48,54 @@ pub fn pack(ins: Instruction) -> u32
         // Core
         Instruction::Nop => numbers(0, 0, 0),
         Instruction::Hlt => numbers(1, 0, 0),
-        Instruction::Mov { dest, src } => gprs(2, dest, src),
-        Instruction::DMov { dest, src } => numbers(3, number(dest), number(src)),
+        Instruction::Mov { dest, src } => operands(2, dest, src),
+        Instruction::DMov { dest, src } => operands(3, dest, src),
 
         // Immediate loads
         Instruction::Putl { reg, imm } => numbers(4, number(reg), imm),
         Instruction::Puth { reg, imm } => numbers(5, number(reg), imm),
 
         // Memory
-        Instruction::Read { val, addr } => gprs(6, val, addr),
-        Instruction::Write { addr, val } => gprs(7, addr, val),
+        Instruction::Read { val, addr } => operands(6, val, addr),
+        Instruction::Write { addr, val } => operands(7, addr, val),
         Instruction::Spread { val, offset } => numbers(8, number(val), offset),
         Instruction::Spwrite { offset, val } => numbers(9, offset, number(val)),
-        Instruction::DRead { val, addr } => numbers(10, number(val), number(addr)),
-        Instruction::DWrite { addr, val } => numbers(11, number(addr), number(val)),
+        Instruction::DRead { val, addr } => operands(10, val, addr),
+        Instruction::DWrite { addr, val } => operands(11, addr, val),
         Instruction::Push { val } => numbers(12, number(val), 0),
         Instruction::Pop { val } => numbers(13, number(val), 0),
 
         // Special-purpose registers
-        Instruction::Movso { dest, src } => numbers(14, number(dest), number(src)),
-        Instruction::Movsi { dest, src } => numbers(15, number(dest), number(src)),
+        Instruction::Movso { dest, src } => operands(14, dest, src),
+        Instruction::Movsi { dest, src } => operands(15, dest, src),
         Instruction::Spadd { val } => numbers(16, number(val), 0),
         Instruction::Spinc => numbers(17, 0, 0),
         Instruction::Spdec => numbers(18, 0, 0),
 
         // Bit manipulation
         Instruction::Not { reg } => numbers(19, number(reg), 0),
-        Instruction::And { reg, val } => gprs(20, reg, val),
-        Instruction::Booland { reg, val } => gprs(21, reg, val),
-        Instruction::Or { reg, val } => gprs(22, reg, val),
-        Instruction::Xor { reg, val } => gprs(23, reg, val),
-        Instruction::Shl { reg, val } => gprs(24, reg, val),
-        Instruction::Shr { reg, val } => gprs(25, reg, val),
-        Instruction::Bitset { reg, idx } => gprs(26, reg, idx),
+        Instruction::And { reg, val } => operands(20, reg, val),
+        Instruction::Booland { reg, val } => operands(21, reg, val),
+        Instruction::Or { reg, val } => operands(22, reg, val),
+        Instruction::Xor { reg, val } => operands(23, reg, val),
+        Instruction::Shl { reg, val } => operands(24, reg, val),
+        Instruction::Shr { reg, val } => operands(25, reg, val),
+        Instruction::Bitset { reg, idx } => operands(26, reg, idx),
 
         // General-purpose arithmetic
         Instruction::Neg { reg } => numbers(27, number(reg), 0),
         Instruction::Inc { reg } => numbers(28, number(reg), 0),
         Instruction::Dec { reg } => numbers(29, number(reg), 0),
-        Instruction::Add { reg, val } => gprs(30, reg, val),
-        Instruction::Sub { reg, val } => gprs(31, reg, val),
-        Instruction::Mul { reg, val } => gprs(32, reg, val),
+        Instruction::Add { reg, val } => operands(30, reg, val),
+        Instruction::Sub { reg, val } => operands(31, reg, val),
+        Instruction::Mul { reg, val } => operands(32, reg, val),
 
         // Comparison
         Instruction::Inv => numbers(33, 0, 0),
         Instruction::Eqz { reg } => numbers(34, number(reg), 0),
-        Instruction::Eq { left, right } => gprs(35, left, right),
-        Instruction::Gt { left, right } => gprs(36, left, right),
-        Instruction::Gteq { left, right } => gprs(37, left, right),
+        Instruction::Eq { left, right } => operands(35, left, right),
+        Instruction::Gt { left, right } => operands(36, left, right),
+        Instruction::Gteq { left, right } => operands(37, left, right),
 
         // Branching
         Instruction::Jmpoff { offset } => numbers(38, offset, 0),
