@@ -43,16 +43,22 @@ fn count(counts: &mut [u64; 256], w: u16) {
     let general = GPR::decode(w).is_some_and(|r| r.number() == w);
     let special = SPR::decode(w).is_some_and(|r| r.encode() == w);
     let decimal = DR::decode(w).is_some_and(|r| r.encode() == w);
-    add(counts, row(w), true);
-    add(counts, GENERAL, general);
-    add(counts, SPECIAL, special);
-    add(counts, DECIMAL, decimal);
+    count_in(counts, row(w));
+    if general {
+        count_in(counts, GENERAL);
+    }
+    if special {
+        count_in(counts, SPECIAL);
+    }
+    if decimal {
+        count_in(counts, DECIMAL);
+    }
 }
 
-// Counts one more in a row, or none.
-fn add(counts: &mut [u64; 256], row: u8, one: bool) {
+// Counts one more in a row.
+fn count_in(counts: &mut [u64; 256], row: u8) {
     let at = row as usize;
-    counts[at] = counts[at].wrapping_add(one as u64);
+    counts[at] = counts[at].wrapping_add(1);
 }
 
 // The row in which a word counts: that of its kind, or that it is of none or does not come back.
