@@ -23,7 +23,7 @@ pub fn wrapping_mul_u16(a: u16, b: u16) -> u16
     a.wrapping_mul(b)
 }
 
-// Whether bit k of a is set.
+// Whether bit k of a is set. (Here and below k is a number, as shifts take one: a type for a bit's place would be taken apart in each.)
 pub fn has_bit(a: u16, k: u16) -> bool
     requires { k < 16 }
     ensures { result ≡ has_bit a k }
