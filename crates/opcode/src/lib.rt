@@ -70,7 +70,8 @@ pub enum InstructionOpcode {
 }
 
 // The opcode of the word with the upper byte hi and the lower byte lo. Ranges of the upper byte are halved, since a match on many single
-// values becomes a jump through a table, which costs more in a long irregular program (docs/PERFORMANCE.md).
+// values becomes a jump through a table, which costs more in a long irregular program (docs/PERFORMANCE.md). The two bytes are what the
+// ranges match, and so are two parameters: a struct of the two would be taken apart in each function.
 pub fn opcode(hi: u8, lo: u8) -> InstructionOpcode
     ensures { result ≡ opcode_of hi lo }
 {
