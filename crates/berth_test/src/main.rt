@@ -66,7 +66,7 @@ const COUNT_FIRST: [u32; 3] = [0x20000001, 0xF0000000, 0x00000000];
 fn show(rt: &impl Print, label: &[u8], input: &[u8]) -> io::Result<()> {
     rt.write_all(label)?;
     rt.write_all(b": ")?;
-    rt.write_all(line_of(input).as_bytes())
+    rt.write_all(line_of(input).as_slice())
 }
 
 // Prints the line of a sheet of at most 64 records after its label.
