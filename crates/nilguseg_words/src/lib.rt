@@ -4,12 +4,10 @@
 
 ghost use Rattle.std.specs.Prelude.{◌≡◌};
 ghost use Rattle.instructions.specs.Decoding.{decode_of};
-ghost use Rattle.nilguseg_words.specs.Instruction.{decoded_number, encoded_number};
+ghost use Rattle.numbers.specs.Instruction.{decoded_number, encoded_number};
 
-use crate::instruction::{instruction, pack};
 use instructions::Instruction;
-
-mod instruction;
+use numbers::{instruction, pack};
 
 // The number of what a word decodes to.
 #[unsafe(no_mangle)]
@@ -23,7 +21,7 @@ pub extern "C" fn nilguseg_decode(word: u16) -> u32
 }
 
 // The word of an instruction, or 0x10000 where the numbers name none.
-#[tactic(auto, using(crate::proofs::Laws::of_bytes))]
+#[tactic(auto, using(numbers::proofs::Laws::of_bytes))]
 #[unsafe(no_mangle)]
 pub extern "C" fn nilguseg_encode(kind: u8, first: u8, second: u8) -> u32
     ensures { result ≡ encoded_number kind first second }

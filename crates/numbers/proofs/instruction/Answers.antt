@@ -1,7 +1,7 @@
 -- `instruction`: where the number names no kind, and the arm of kind 2, whose number the check does not put in by itself.
 use Rattle.std.proofs.Common.{rules}
-use Rattle.nilguseg_words.proofs.KindLaws.{no_kind}
-use Rattle.nilguseg_words.proofs.instruction.instruction.Goals as goal
+use Rattle.numbers.proofs.KindLaws.{no_kind}
+use Rattle.numbers.proofs.instruction.Goals as goal
 
 pub returns-in_default : goal.returns-in_default
 returns-in_default c = search no_kind

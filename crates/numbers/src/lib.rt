@@ -1,8 +1,10 @@
-// The numbers of the instructions' kinds and operands.
+// The numbers of instructions, as hosts have them: of the kinds and of the operands.
+#![tactic(auto)]
+
 ghost use Rattle.std.specs.Prelude.{◌≡◌};
 ghost use Rattle.std.specs.Option.{option_zip};
 ghost use Rattle.instructions.specs.Reg.{register_of};
-ghost use Rattle.nilguseg_words.specs.Instruction.{numbers, numbers_of, packed, instruction_of};
+ghost use Rattle.numbers.specs.Instruction.{numbers, numbers_of, packed, instruction_of};
 
 use instructions::{Instruction, Register};
 

@@ -8,7 +8,7 @@ use Rattle.instructions.specs.declared.reg.SpecialPurposeRegister.{SpecialPurpos
 use Rattle.instructions.specs.declared.reg.DecimalRegister.{DecimalRegister}
 use Rattle.instructions.specs.declared.ins.Instruction.{Instruction}
 use Rattle.instructions.specs.declared.ins.Instruction.TheVariants.{Nop}
-use Rattle.nilguseg_words.specs.Instruction.{numbers_of, gpr, spr, dr, instruction_of, word_of, encoded_number, NumbersEncode}
+use Rattle.numbers.specs.Instruction.{numbers_of, gpr, spr, dr, instruction_of, word_of, encoded_number, NumbersEncode}
 
 gpr_lem : (r : GeneralPurposeRegister) → gpr (gpr_number r) ≡ Some r
 gpr_lem r = search rules

@@ -1,7 +1,7 @@
 -- The kinds above 42.
 use Rattle.std.proofs.Common.{◌≡◌, ℕ, zero, suc, ◌≤◌, None, ap, sym, arith}
 use lib.ListN.{get_or-eq_default}
-use Rattle.nilguseg_words.specs.Instruction.{Kind, kinds, instruction_of}
+use Rattle.numbers.specs.Instruction.{Kind, kinds, instruction_of}
 
 -- k is none of the numbers below n
 abbrev pub Apart : ℕ → ℕ → Type 0
