@@ -18,8 +18,7 @@ pub use number::{order_number, written_number};
 
 // Puts back the core that a step leaves, and answers how it came out.
 pub fn put_step(step: Step, core: &mut [u16; 12]) -> u32
-    ensures number { result ≡ outcome_number (answer_of step.answer) }
-    ensures core { core.new ≡ words_of step.core }
+    ensures { call result (core.new ∷ []) ≡ call (outcome_number (answer_of step.answer)) (words_of step.core ∷ []) }
 {
     put_core(step.core, core);
     step_number(step.answer)
@@ -35,8 +34,7 @@ pub fn put_run(run: Run, core: &mut [u16; 12]) -> u64
 
 // Puts back the core that a load leaves, and answers what it comes to.
 pub fn put_load(load: Load, core: &mut [u16; 12]) -> u32
-    ensures number { result ≡ loaded_number load.answer }
-    ensures core { core.new ≡ words_of load.core }
+    ensures { call result (core.new ∷ []) ≡ call (loaded_number load.answer) (words_of load.core ∷ []) }
 {
     put_core(load.core, core);
     loaded_number(load.answer)
