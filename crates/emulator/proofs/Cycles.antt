@@ -6,15 +6,16 @@ use Rattle.instructions.specs.declared.ins.encoding.Undecodable.{Undecodable}
 use Rattle.execute.specs.Execute.{execute_of}
 use Rattle.execute.specs.Registers.{registers}
 use Rattle.execute.specs.declared.effect.Effect.{Effect}
-use Rattle.emulator.specs.Log.{Logged, logged, read_log}
-use Rattle.emulator.specs.Memory.{accessed}
-use Rattle.emulator.specs.Outcome.{fault, stop_of}
-use Rattle.emulator.specs.Machine.{Store, Turn, turn, after_of, access_of, planned, plan_of, carry_out, advanced, cycle_of}
+use Rattle.memory.specs.Log.{Logged, logged, read_log}
+use Rattle.memory.specs.Memory.{accessed}
+use Rattle.memory.specs.Outcome.{fault, stop_of}
+use Rattle.memory.specs.Store.{Store}
+use Rattle.emulator.specs.Machine.{Turn, turn, after_of, access_of, planned, plan_of, carry_out, advanced, cycle_of}
 use Rattle.emulator.specs.declared.core_record.Core.{Core}
-use Rattle.emulator.specs.declared.log.Purpose.{Purpose}
-use Rattle.emulator.specs.declared.stop.Stop.{Stop}
+use Rattle.memory.specs.declared.log.Purpose.{Purpose}
+use Rattle.memory.specs.declared.stop.Stop.{Stop}
 
-module _ {S : Type 0} (on : Store S) (c : Core) {m m₁ : S} {r : Result ℕ Stop} (q : accessed r m₁ ≡ on.read m c.ip) where
+module _ {S : Type 0} (on : Store S) (c : Core) {m m₁ : S} {r : Result ℕ Stop} (q : accessed r m₁ ≡ on.read m Purpose.Fetch c.ip) where
   -- the fetch stops, or its word stands for no instruction
   pub cycle_stopped : {s : Stop} → r ≡ Err s → logged (turn (stop_of s) c m₁) (read_log Purpose.Fetch c.ip r ++ []) ≡ cycle_of on plan_of c m
   unfolding cycle_of

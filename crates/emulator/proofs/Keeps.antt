@@ -1,18 +1,22 @@
 -- What every access leads to, a cycle and a run lead to: a relation of the log and memory, or what stands in its place, before and after. So
 -- marks only grow and the lengths never change.
-use Rattle.std.specs.Prelude.{◌≡◌, ℕ, zero, suc, ◌+◌, Bool, eqb, ltb, List, [], ◌++◌, length, Result, Ok, Err}
+use Rattle.std.specs.Prelude.{◌≡◌, ℕ, zero, suc, ◌+◌, Bool, eqb, List, [], ◌++◌, length, Option, None, Result, Ok, Err}
 use mathlib.Core.List.{append-nil, append_assoc}
 use mathlib.Core.Path.{refl, ◌∙◌}
 use Rattle.emulator.specs.Core.{is_halted}
-use Rattle.emulator.specs.Log.{read_log, reply_log, Logged}
-use Rattle.emulator.specs.Memory.{Memory, Accessed, read_of, write_of, Kept}
-use Rattle.emulator.specs.Machine.{Access, none, load, store, stop, Plan, Store, memory_store, read_reply, write_reply, make_of, Turn, carry_out, on_fetch, advanced, cycle_of, refusal_of, step_of, Ran, is_stepped, next_of, run_until}
+use Rattle.memory.specs.Log.{read_log, reply_log, Logged}
+use Rattle.memory.specs.Memory.{Memory, read_at, write_at, read_of, write_of, Kept}
+use Rattle.memory.specs.Rights.{right_of}
+use Rattle.memory.specs.Store.{Store, memory_store}
+use Rattle.emulator.specs.Machine.{Access, none, load, store, stop, Plan, read_reply, write_reply, make_of, Turn, carry_out, on_fetch, advanced, cycle_of, refusal_of, step_of, Ran, is_stepped, next_of, run_until}
 use Rattle.emulator.specs.declared.core_record.Core.{Core}
-use Rattle.emulator.specs.declared.log.Purpose.{Purpose}
-use Rattle.emulator.specs.declared.refusal.LogEnd.{LogEnd}
-use Rattle.emulator.specs.declared.stop.Stop.{Stop}
+use Rattle.memory.specs.declared.log.Purpose.{Purpose}
+use Rattle.memory.specs.declared.refusal.LogEnd.{LogEnd}
+use Rattle.memory.specs.declared.rights.Right.{Right}
+use Rattle.memory.specs.declared.stop.Stop.{Stop}
 use Rattle.instructions.proofs.Cases.{if_elim}
-use Rattle.emulator.proofs.Marks.{kept_read, kept_write}
+use Rattle.memory.proofs.Marks.{kept_read, kept_write}
+use Rattle.memory.proofs.Places.{place_elim}
 
 -- what is logged of an access, by its reply
 pub read_replied : (a : ℕ) (x : Result ℕ Stop) → reply_log (read_reply a x) ≡ read_log Purpose.Read a x
@@ -27,7 +31,7 @@ write_replied (Err s) = refl
 pub record Leads {S : Type 0} (store : Store S) (P : List ℕ → S → List ℕ → S → Type 0) : Type 0 where
   pub same : (l : List ℕ) (m : S) → P l m l m
   pub next : {l l₁ l₂ : List ℕ} {m m₁ m₂ : S} → P l m l₁ m₁ → P l₁ m₁ l₂ m₂ → P l m l₂ m₂
-  pub read : (p : Purpose) (l : List ℕ) (m : S) (a : ℕ) → P l m (l ++ read_log p a (store.read m a).answer) (store.read m a).memory
+  pub read : (p : Purpose) (l : List ℕ) (m : S) (a : ℕ) → P l m (l ++ read_log p a (store.read m p a).answer) (store.read m p a).memory
   pub write : (l : List ℕ) (m : S) (a v : ℕ) → P l m l (store.write m a v).memory
 
 module _ {S : Type 0} (on : Store S) {P : List ℕ → S → List ℕ → S → Type 0} (leads : Leads on P) where
@@ -63,7 +67,7 @@ module _ {S : Type 0} (on : Store S) {P : List ℕ → S → List ℕ → S → 
     cycle_leads l c m =
         rw (← append_assoc)
         (leads.next (leads.read Purpose.Fetch l m c.ip)
-        (on_fetch_leads (λ w. carry_out on (plan (advanced c) w)) c _ _ (λ w. make_leads _ (plan (advanced c) w).access _) (on.read m c.ip).answer))
+        (on_fetch_leads (λ w. carry_out on (plan (advanced c) w)) c _ _ (λ w. make_leads _ (plan (advanced c) w).access _) (on.read m Purpose.Fetch c.ip).answer))
 
     pub run_leads : (over : List ℕ → Bool) (why : LogEnd) (k n : ℕ) (c : Core) (m : S) (l : List ℕ)
         → P l m (run_until on plan over why k n c m l).log (run_until on plan over why k n c m l).result.memory
@@ -94,27 +98,29 @@ kept_next p q =
       marks_length = q.marks_length ∙ p.marks_length;
     }
 
-read_keeps : (m : Memory) (a : ℕ) → Kept m (read_of m a).memory
-unfolding read_of
-read_keeps m a =
-    if_elim (λ (x : Accessed Memory (Result ℕ Stop)). Kept m x.memory) (ltb a (length m.words)) (λ _. kept_read m.words m.marks a) (λ _. kept_same m)
+module _ (rights : Option (List ℕ)) where
+  read_keeps : (m : Memory) (p : Purpose) (a : ℕ) → Kept m (read_of rights m p a).memory
+  unfolding read_of
+  read_keeps m p a =
+      place_elim rights (length m.words) (right_of p) a (λ (x : Result ℕ Stop). Kept m (read_at m x).memory)
+      (λ _ _. kept_read m.words m.marks a) (λ _. kept_same m)
 
-write_keeps : (m : Memory) (a v : ℕ) → Kept m (write_of m a v).memory
-unfolding write_of
-write_keeps m a v =
-    if_elim (λ (x : Accessed Memory (Result (Unit {0}) Stop)). Kept m x.memory) (ltb a (length m.words)) (λ _. kept_write m.words m.marks a v) (λ _. kept_same m)
+  write_keeps : (m : Memory) (a v : ℕ) → Kept m (write_of rights m a v).memory
+  unfolding write_of
+  write_keeps m a v =
+      place_elim rights (length m.words) Right.Write a (λ (x : Result ℕ Stop). Kept m (write_at m v x).memory)
+      (λ _ _. kept_write m.words m.marks a v) (λ _. kept_same m)
 
-pub kept_leads : Leads memory_store (λ l m l' m'. Kept m m')
-kept_leads = record { same = λ l m. kept_same m; next = kept_next; read = λ p l m a. read_keeps m a; write = λ l m a v. write_keeps m a v }
+  pub kept_leads : Leads (memory_store rights) (λ l m l' m'. Kept m m')
+  kept_leads = record { same = λ l m. kept_same m; next = kept_next; read = λ p l m a. read_keeps m p a; write = λ l m a v. write_keeps m a v }
 
-module _ (plan : Core → ℕ → Plan) where
-  pub cycle_keeps : (c : Core) (m : Memory) → Kept m (cycle_of memory_store plan c m).result.memory
-  cycle_keeps = cycle_leads memory_store kept_leads plan []
+  pub cycle_keeps : (plan : Core → ℕ → Plan) (c : Core) (m : Memory) → Kept m (cycle_of (memory_store rights) plan c m).result.memory
+  cycle_keeps plan = cycle_leads (memory_store rights) kept_leads plan []
 
-  pub step_keeps : (c : Core) (m : Memory) → Kept m (step_of plan c m).memory
-  unfolding step_of
-  step_keeps c m =
-      if_elim After (eqb (refusal_of m) 0) (λ _. if_elim After (is_halted c) (λ _. kept_same m) (λ _. cycle_keeps c m)) (λ _. kept_same m)
-    where
-      After : Turn Memory → Type 0
-      After t = Kept m t.memory
+pub step_keeps : (plan : Core → ℕ → Plan) (c : Core) (m : Memory) → Kept m (step_of plan c m).memory
+unfolding step_of
+step_keeps plan c m =
+    if_elim After (eqb (refusal_of m) 0) (λ _. if_elim After (is_halted c) (λ _. kept_same m) (λ _. cycle_keeps None plan c m)) (λ _. kept_same m)
+  where
+    After : Turn Memory → Type 0
+    After t = Kept m t.memory

@@ -1,33 +1,16 @@
 -- Laws of what is lent: the host tests, and what a call leaves.
-use Rattle.std.specs.Prelude.{◌≡◌, ℕ, ◌<◌, ◌≤◌, true, false, eqb, List, length, Ok, Err}
+use Rattle.std.specs.Prelude.{◌≡◌, ℕ, ◌≤◌, Bool, false, eqb, List, length, Option, Ok, Err}
 use mathlib.Core.Path.{sym}
 use native.Mathlib.Omega.{arith}
-use borrow.Author.Tests.{lt-ltb, le-ltb, eqb-true, eq-eqb, ne_eqb}
-use Rattle.emulator.specs.Memory.{Memory, lent, refused_length, length_test}
-use Rattle.emulator.specs.Outcome.{refusal_number}
-use Rattle.emulator.specs.Machine.{refusal_of}
-use Rattle.emulator.specs.declared.refusal.Refusal.{Refusal}
+use Rattle.std.proofs.lemmas.Bool.{true≢false}
+use borrow.Author.Tests.{ltb-false, eqb-true, eq-eqb, ne_eqb}
+use Rattle.memory.specs.Memory.{Memory, lent, refused_length, length_test}
+use Rattle.memory.specs.Outcome.{refusal_number}
+use Rattle.emulator.specs.Machine.{refusal_of, refusal_with}
+use Rattle.memory.specs.Rights.{refused_bytes}
+use Rattle.memory.specs.declared.refusal.Refusal.{Refusal}
+use Rattle.memory.proofs.Laws.{length_passes, length_fails}
 use Rattle.instructions.proofs.Cases.{by_test, if_elim}
-
--- the host tests
-pub length_accepted : (n : ℕ) → 1 ≤ n → n ≤ 65536 → refused_length n ≡ false
-unfolding refused_length
-length_accepted n l m = rw (ne_eqb n 0 (λ z. omega arith), le-ltb 65536 n m)
-
-pub length_none : (n : ℕ) → n < 1 → refused_length n ≡ true
-unfolding refused_length
-length_none n l = let none : n ≡ 0 = omega arith in rw (eq-eqb n 0 none)
-
-pub length_past : (n : ℕ) → 65537 ≤ n → refused_length n ≡ true
-unfolding refused_length
-length_past n l = rw (ne_eqb n 0 (λ z. omega arith), lt-ltb 65536 n l)
-
-module _ (n : ℕ) where
-  pub length_passes : {u : Unit {0}} → Ok u ≡ length_test n → refused_length n ≡ false
-  length_passes e = by_test (refused_length n) (λ t. let both = rw t at e in cc) (λ f. f)
-
-  pub length_fails : {r : Refusal} → Err r ≡ length_test n → (refused_length n ≡ true) × (r ≡ Refusal.MemoryLength)
-  length_fails e = by_test (refused_length n) (λ t. (t, let both = rw t at e in cc)) (λ f. let both = rw f at e in cc)
 
 module _ (mem ms : List ℕ) where
   pub test_length : {r : Refusal} → Err r ≡ length_test (length mem) → refusal_number r ≡ refusal_of (lent mem ms)
@@ -43,6 +26,20 @@ module _ (mem ms : List ℕ) where
     unfolding refusal_of
     test_none e = rw (length_passes (length mem) passed, eq-eqb (length ms) (length mem) e)
 
+-- where no host test of a run refuses, neither 1 and 2 nor 32 does
+module _ (rights : Option (List ℕ)) (m : Memory) (ok : refusal_with rights m ≡ 0) where
+  pub with_accepted : refusal_of m ≡ 0
+  with_accepted =
+      by_test (refused_bytes rights)
+      (λ t. by_test (eqb (refusal_of m) 0) (λ z. eqb-true _ _ z) (λ n. rw (t, n) at ok))
+      (λ f. rw f at ok)
+
+  pub rights_accepted : refused_bytes rights ≡ false
+  rights_accepted =
+      by_test (refused_bytes rights)
+      (λ t. let none = rw (t, eq-eqb (refusal_of m) 0 with_accepted) at ok in absurd (omega arith))
+      (λ f. f)
+
 -- no host test refuses: the lists are equally long
 pub accepted_marked : (m : Memory) → refusal_of m ≡ 0 → length m.marks ≡ length m.words
 unfolding refusal_of
@@ -52,6 +49,16 @@ accepted_marked m =
   where
     Says : ℕ → Type 0
     Says x = x ≡ 0 → length m.marks ≡ length m.words
+
+-- and no longer than 65,536
+pub accepted_length : (m : Memory) → refusal_of m ≡ 0 → length m.words ≤ 65536
+unfolding refusal_of refused_length
+accepted_length m =
+    if_elim Says (refused_length (length m.words)) (λ _ z. absurd (omega arith))
+    (λ f _. if_elim (λ (b : Bool). b ≡ false → length m.words ≤ 65536) (eqb (length m.words) 0) (λ _ t. absurd (true≢false t)) (λ _ g. ltb-false _ _ g) f)
+  where
+    Says : ℕ → Type 0
+    Says x = x ≡ 0 → length m.words ≤ 65536
 
 pub accepted : (mem ms : List ℕ) → 0 ≡ refusal_of (lent mem ms) → length ms ≡ length mem
 accepted mem ms z = accepted_marked (lent mem ms) (sym z)

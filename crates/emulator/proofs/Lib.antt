@@ -1,9 +1,6 @@
-pub mod Stores
-pub mod Marks
 pub mod Laws
 pub mod Cycles
 pub mod Runs
-pub mod Logs
 pub mod Keeps
 pub mod Sizes
 pub mod Whole

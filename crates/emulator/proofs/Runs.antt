@@ -4,18 +4,20 @@ use mathlib.Core.Path.{refl, sym, ap, ◌∙◌}
 use native.Mathlib.Omega.{arith}
 use Rattle.instructions.proofs.Cases.{by_test}
 use Rattle.emulator.specs.Core.{is_halted}
-use Rattle.emulator.specs.Log.{Logged, logged, end_by_log}
-use Rattle.emulator.specs.Outcome.{Outcome, stepped, halted, limit, fault, ended, stop_of, log_end_number}
-use Rattle.emulator.specs.Machine.{Plan, plan_of, Store, Turn, turn, cycle_of, Ran, ran, next_of, run_until}
+use Rattle.memory.specs.Log.{Logged, logged, end_by_log}
+use Rattle.memory.specs.Outcome.{Outcome, stepped, halted, limit, fault, ended, stop_of, log_end_number}
+use Rattle.memory.specs.Store.{Store}
+use Rattle.emulator.specs.Machine.{Plan, plan_of, Turn, turn, cycle_of, Ran, ran, next_of, run_until}
 use Rattle.emulator.specs.declared.core_record.Core.{Core}
-use Rattle.emulator.specs.declared.refusal.LogEnd.{LogEnd}
-use Rattle.emulator.specs.declared.stop.Stop.{Stop}
-use Rattle.emulator.specs.declared.stop.Stop.TheVariants as stops
+use Rattle.memory.specs.declared.refusal.LogEnd.{LogEnd}
+use Rattle.memory.specs.declared.stop.Stop.{Stop}
+use Rattle.memory.specs.declared.stop.Stop.TheVariants as stops
 
 -- a property of every stop's outcome, of every fault's
 pub stop_elim : (P : Outcome → Type 0) → ((n v : ℕ) → P (fault n v)) → (s : Stop) → P (stop_of s)
 stop_elim P f (stops.Undecodable v) = f _ v
 stop_elim P f (stops.OutOfRange v) = f _ v
+stop_elim P f (stops.NoRight v) = f _ v
 stop_elim P f (stops.Decimal v) = f _ v
 stop_elim P f (stops.Amount v) = f _ v
 stop_elim P f (stops.Negation v) = f _ v

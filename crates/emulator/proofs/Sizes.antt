@@ -5,12 +5,13 @@ use lib.ListN.{length-append}
 use borrow.Author.Tests.{ltb-false}
 use Rattle.instructions.proofs.Cases.{if_elim}
 use Rattle.emulator.specs.Core.{is_halted}
-use Rattle.emulator.specs.Log.{read_log, Reply, reply_log, Logged, words, is_full}
-use Rattle.emulator.specs.Machine.{Plan, Store, Turn, make_of, carry_out, on_fetch, advanced, cycle_of, Ran, is_stepped, next_of, setting, full_in, run_until}
+use Rattle.memory.specs.Log.{read_log, Reply, reply_log, Logged, words, is_full}
+use Rattle.memory.specs.Store.{Store}
+use Rattle.emulator.specs.Machine.{Plan, Turn, make_of, carry_out, on_fetch, advanced, cycle_of, Ran, is_stepped, next_of, run_until}
 use Rattle.emulator.specs.declared.core_record.Core.{Core}
-use Rattle.emulator.specs.declared.log.Purpose.{Purpose}
-use Rattle.emulator.specs.declared.refusal.LogEnd.{LogEnd}
-use Rattle.emulator.specs.declared.stop.Stop.{Stop}
+use Rattle.memory.specs.declared.log.Purpose.{Purpose}
+use Rattle.memory.specs.declared.refusal.LogEnd.{LogEnd}
+use Rattle.memory.specs.declared.stop.Stop.{Stop}
 
 read_short : (p : Purpose) (a : ℕ) (r : Result ℕ Stop) → length (read_log p a r) ≤ 2
 read_short p a (Ok w) = omega arith
@@ -25,12 +26,12 @@ module _ {S : Type 0} (on : Store S) (plan : Core → ℕ → Plan) where
   cycle_short : (c : Core) (m : S) → length (cycle_of on plan c m).log ≤ 4
   unfolding cycle_of
   cycle_short c m =
-      let one = read_short Purpose.Fetch c.ip (on.read m c.ip).answer in
-      let other = after (on.read m c.ip).answer in
+      let one = read_short Purpose.Fetch c.ip (on.read m Purpose.Fetch c.ip).answer in
+      let other = after (on.read m Purpose.Fetch c.ip).answer in
       rw length-append (omega arith)
     where
-      after : (r : Result ℕ Stop) → length (on_fetch (λ w. carry_out on (plan (advanced c) w)) c (on.read m c.ip).memory r).log ≤ 2
-      after (Ok w) = reply_short (make_of on (plan (advanced c) w).access (on.read m c.ip).memory).answer
+      after : (r : Result ℕ Stop) → length (on_fetch (λ w. carry_out on (plan (advanced c) w)) c (on.read m Purpose.Fetch c.ip).memory r).log ≤ 2
+      after (Ok w) = reply_short (make_of on (plan (advanced c) w).access (on.read m Purpose.Fetch c.ip).memory).answer
       after (Err s) = omega arith
 
   module _ (size : ℕ) (why : LogEnd) where
@@ -41,7 +42,7 @@ module _ {S : Type 0} (on : Store S) (plan : Core → ℕ → Plan) where
         → ((c : Core) (m : S) (k : List ℕ) → length k ≤ size → Fits (more c m k)) → (t : Logged (Turn S)) → length (l ++ t.log) ≤ size → Fits (next_of more n l t)
     next_fits more n l h t w = if_elim Fits (is_stepped t.result.outcome) (λ _. h t.result.core t.result.memory (l ++ t.log) w) (λ _. w)
 
-    pub run_fits : (k n : ℕ) (c : Core) (m : S) (l : List ℕ) → length l ≤ size → Fits (run_until on plan (full_in (setting (words size))) why k n c m l)
+    pub run_fits : (k n : ℕ) (c : Core) (m : S) (l : List ℕ) → length l ≤ size → Fits (run_until on plan (λ l. is_full (words size) (length l)) why k n c m l)
     unfolding run_until
     run_fits zero n c m l w = if_elim Fits (is_halted c) (λ _. w) (λ _. w)
     run_fits (suc k) n c m l w =
@@ -50,4 +51,4 @@ module _ {S : Type 0} (on : Store S) (plan : Core → ℕ → Plan) where
         (λ free.
         let four : 4 ≤ size - length l = ltb-false _ _ free in
         let short = cycle_short c m in
-        next_fits (run_until on plan (full_in (setting (words size))) why k (n + 1)) n l (run_fits k (n + 1)) (cycle_of on plan c m) (rw length-append (omega arith))))
+        next_fits (run_until on plan (λ l. is_full (words size) (length l)) why k (n + 1)) n l (run_fits k (n + 1)) (cycle_of on plan c m) (rw length-append (omega arith))))

@@ -1,23 +1,27 @@
 -- Laws of the run, the logged run and the step: by their host tests, and as the turns of the loop.
-use Rattle.std.specs.Prelude.{◌≡◌, ℕ, ◌+◌, List, [], length, replicate, Result, Ok, Err}
+use Rattle.std.specs.Prelude.{◌≡◌, ℕ, ◌+◌, List, [], length, replicate, Option, None, Result, Ok, Err}
 use mathlib.Core.Path.{refl, sym, ap, ◌∙◌}
 use native.Mathlib.Nat.{zero-add}
 use native.Mathlib.Omega.{arith}
 use borrow.Author.Tests.{eq-eqb, ne_eqb}
 use Rattle.instructions.proofs.Cases.{by_test, if_elim}
 use Rattle.emulator.specs.Core.{is_halted}
-use Rattle.emulator.specs.Log.{Reply, Logged, logged, is_full, written, words}
-use Rattle.emulator.specs.Memory.{Memory, lent}
-use Rattle.emulator.specs.Outcome.{Outcome, stepped, halted, limit, fault, refused, ended, stop_of, refusal_number, answer_of, end_of, uncounted, answered_of}
-use Rattle.emulator.specs.Machine.{Access, none, load, store, stop, Plan, plan_of, settle_of, memory_store, Turn, turn, on_fetch, advanced, carry_out, cycle_of, refusal_of, unmarked, step_of, Ran, ran, next_of, Setting, plain, logging_in, run_until, run_from, RanLogged, ran_logged, in_buffer, run_in, run_of, run_logged_of}
-use Rattle.emulator.specs.Parts.{Logs}
+use Rattle.memory.specs.Log.{Reply, Logged, logged, is_full, written, words}
+use Rattle.memory.specs.Memory.{Memory, lent}
+use Rattle.memory.specs.Outcome.{Outcome, stepped, halted, limit, fault, refused, ended, stop_of, refusal_number}
+use Rattle.emulator.specs.Answers.{answer_of, end_of, uncounted, answered_of}
+use Rattle.memory.specs.Store.{memory_store}
+use Rattle.emulator.specs.Machine.{Access, none, load, store, stop, Plan, plan_of, settle_of, Turn, turn, on_fetch, advanced, carry_out, cycle_of, refusal_of, refusal_with, unmarked, step_of, Ran, ran, next_of, Setting, plain, unlogged, logging_in, run_until, run_from, RanLogged, ran_logged, in_buffer, run_in}
+use Rattle.memory.specs.Parts.{Logs}
 use Rattle.emulator.specs.declared.core_record.Answer.{Answer}
 use Rattle.emulator.specs.declared.core_record.Core.{Core}
 use Rattle.emulator.specs.declared.cycle.End.{End}
-use Rattle.emulator.specs.declared.refusal.LogEnd.{LogEnd}
-use Rattle.emulator.specs.declared.refusal.Refusal.{Refusal}
-use Rattle.emulator.specs.declared.stop.Stop.{Stop}
-use Rattle.emulator.proofs.Logs.{logs_kept}
+use Rattle.memory.specs.declared.log.Purpose.{Purpose}
+use Rattle.memory.specs.declared.refusal.LogEnd.{LogEnd}
+use Rattle.memory.specs.declared.refusal.Refusal.{Refusal}
+use Rattle.memory.specs.declared.stop.Stop.{Stop}
+use Rattle.memory.proofs.Laws.{refuses}
+use Rattle.memory.proofs.Logs.{logs_kept}
 use Rattle.emulator.proofs.Runs.{stop_elim}
 use Rattle.emulator.proofs.Sizes.{run_fits}
 
@@ -26,47 +30,49 @@ pub relogged : (r : Memory → Ran Memory) (k : ℕ) {a b l a' b' l' : List ℕ}
     → ran_logged (r (lent a b)) (written k l) ≡ x → ran_logged (r (lent a' b')) (written k l') ≡ x
 relogged r k p q s e = rw (p, q, s) e
 
+-- the turns of a logged run, and what they leave of the buffer
+pub turns_logged : (b : List ℕ) (rights : Option (List ℕ)) (most : ℕ) (c : Core) (m : Memory) {b' : List ℕ} {k : ℕ} {r : Ran Memory}
+    → r ≡ (run_until (memory_store rights) plan_of (λ l. is_full (words (length b)) (0 + length l)) LogEnd.Full most 0 c m []).result
+    → Logs b 0 b' k (run_until (memory_store rights) plan_of (λ l. is_full (words (length b)) (0 + length l)) LogEnd.Full most 0 c m []).log
+    → ran_logged r (written k b') ≡ in_buffer b (run_from (memory_store rights) plan_of (logging_in b rights) most 0 c m [])
+turns_logged b rights most c m t h =
+    let w = run_fits (memory_store rights) plan_of (length b) LogEnd.Full most 0 c m [] (omega arith) in
+    rw (simp zero-add at t, logs_kept (simp zero-add at h) w) refl
+
 -- an accepted run is its turns from marks that are all 0
-pub accepted_run : (plan : Core → ℕ → Plan) (given : Setting) (c : Core) (m : Memory) (most : ℕ) → refusal_of m ≡ 0
-    → run_in plan given c m most ≡ run_from memory_store plan given most 0 c (unmarked m) []
+pub accepted_run : (plan : Core → ℕ → Plan) (given : Setting) (c : Core) (m : Memory) (most : ℕ) → refusal_with given.rights m ≡ 0
+    → run_in plan given c m most ≡ run_from (memory_store given.rights) plan given most 0 c (unmarked m) []
 unfolding run_in
-accepted_run plan given c m most z = rw (eq-eqb (refusal_of m) 0 z)
+accepted_run plan given c m most z = rw (eq-eqb (refusal_with given.rights m) 0 z)
 
--- a refusal is no 0
-refuses : (r : Refusal) {n : ℕ} → refusal_number r ≡ n → n ≡ 0 → ⊥
-refuses Refusal.MemoryLength e z = omega arith
-refuses Refusal.MarksLength e z = omega arith
+module _ (given : Setting) (c : Core) (mem ms : List ℕ) (most : ℕ) where
+  refused_run : (r : Refusal) → refusal_number r ≡ refusal_with given.rights (lent mem ms)
+      → logged (ran (refused (refusal_number r)) 0 c (lent mem ms)) [] ≡ run_in plan_of given c (lent mem ms) most
+  unfolding run_in
+  refused_run r asked = rw (asked, ne_eqb (refusal_with given.rights (lent mem ms)) 0 (refuses r asked))
 
-module _ (c : Core) (mem ms : List ℕ) (most : ℕ) where
-  module _ (r : Refusal) (asked : refusal_number r ≡ refusal_of (lent mem ms)) where
-    refused_run : (given : Setting) → logged (ran (refused (refusal_number r)) 0 c (lent mem ms)) [] ≡ run_in plan_of given c (lent mem ms) most
-    unfolding run_in
-    refused_run given = rw (asked, ne_eqb (refusal_of (lent mem ms)) 0 (refuses r asked))
+  whole_run : 0 ≡ refusal_with given.rights (lent mem ms) → {ms₀ : List ℕ} → ms₀ ≡ replicate (length ms) 0
+      → run_from (memory_store given.rights) plan_of given most 0 c (lent mem ms₀) [] ≡ run_in plan_of given c (lent mem ms) most
+  whole_run asked cleared = rw (cleared, accepted_run plan_of given c (lent mem ms) most (sym asked))
 
-    pub run_refused : ran (refused (refusal_number r)) 0 c (lent mem ms) ≡ run_of plan_of c (lent mem ms) most
-    unfolding run_of
-    run_refused = ap (λ (x : Logged (Ran Memory)). x.result) (refused_run plain)
+-- the run and the logged run, with rights or without, by their host tests and their turns
+module _ (rights : Option (List ℕ)) (c : Core) (mem ms : List ℕ) (most : ℕ) where
+  module _ (r : Refusal) (asked : refusal_number r ≡ refusal_with rights (lent mem ms)) where
+    pub run_refused : ran (refused (refusal_number r)) 0 c (lent mem ms) ≡ (run_in plan_of (unlogged rights) c (lent mem ms) most).result
+    run_refused = ap (λ (x : Logged (Ran Memory)). x.result) (refused_run (unlogged rights) c mem ms most r asked)
 
-    pub logged_refused : (b : List ℕ) → ran_logged (ran (refused (refusal_number r)) 0 c (lent mem ms)) (written 0 b) ≡ run_logged_of plan_of c (lent mem ms) most b
-    unfolding run_logged_of
-    logged_refused b = ap (in_buffer (logging_in b) b) (refused_run (logging_in b))
+    pub logged_refused : (b : List ℕ)
+        → ran_logged (ran (refused (refusal_number r)) 0 c (lent mem ms)) (written 0 b) ≡ in_buffer b (run_in plan_of (logging_in b rights) c (lent mem ms) most)
+    logged_refused b = ap (in_buffer b) (refused_run (logging_in b rights) c mem ms most r asked)
 
-  module _ (asked : 0 ≡ refusal_of (lent mem ms)) {ms₀ : List ℕ} (cleared : ms₀ ≡ replicate (length ms) 0) where
-    whole_run : (given : Setting) → run_from memory_store plan_of given most 0 c (lent mem ms₀) [] ≡ run_in plan_of given c (lent mem ms) most
-    whole_run given = rw (cleared, accepted_run plan_of given c (lent mem ms) most (sym asked))
+  module _ (asked : 0 ≡ refusal_with rights (lent mem ms)) {ms₀ : List ℕ} (cleared : ms₀ ≡ replicate (length ms) 0) where
+    pub run_accepted : {r : Ran Memory} → r ≡ (run_from (memory_store rights) plan_of (unlogged rights) most 0 c (lent mem ms₀) []).result
+        → r ≡ (run_in plan_of (unlogged rights) c (lent mem ms) most).result
+    run_accepted t = t ∙ ap (λ (x : Logged (Ran Memory)). x.result) (whole_run (unlogged rights) c mem ms most asked cleared)
 
-    pub run_accepted : {r : Ran Memory} → r ≡ (run_from memory_store plan_of plain most 0 c (lent mem ms₀) []).result → r ≡ run_of plan_of c (lent mem ms) most
-    unfolding run_of
-    run_accepted t = t ∙ ap (λ (x : Logged (Ran Memory)). x.result) (whole_run plain)
-
-    pub logged_accepted : (b : List ℕ) {b' : List ℕ} {k : ℕ} {r : Ran Memory}
-        → r ≡ (run_until memory_store plan_of (λ l. is_full (words (length b)) (0 + length l)) LogEnd.Full most 0 c (lent mem ms₀) []).result
-        → Logs b 0 b' k (run_until memory_store plan_of (λ l. is_full (words (length b)) (0 + length l)) LogEnd.Full most 0 c (lent mem ms₀) []).log
-        → ran_logged r (written k b') ≡ run_logged_of plan_of c (lent mem ms) most b
-    unfolding run_logged_of
-    logged_accepted b t h =
-        let w = run_fits memory_store plan_of (length b) LogEnd.Full most 0 c (lent mem ms₀) [] (omega arith) in
-        rw (simp zero-add at t, logs_kept (simp zero-add at h) w) (ap (in_buffer (logging_in b) b) (whole_run (logging_in b)))
+    pub logged_accepted : (b : List ℕ) {r : RanLogged} → r ≡ in_buffer b (run_from (memory_store rights) plan_of (logging_in b rights) most 0 c (lent mem ms₀) [])
+        → r ≡ in_buffer b (run_in plan_of (logging_in b rights) c (lent mem ms) most)
+    logged_accepted b t = t ∙ ap (in_buffer b) (whole_run (logging_in b rights) c mem ms most asked cleared)
 
 -- a cycle isn't ended by the limit
 abbrev Settles : Outcome → Type 0
@@ -85,11 +91,11 @@ settle_settled c (store a v) (Reply.word b w) = refl
 settle_settled c (store a v) (Reply.stopped s) = stop_settled s
 settle_settled c (stop s) r = stop_settled s
 
-cycle_settled : (plan : Core → ℕ → Plan) (c : Core) (m : Memory) → Settles (cycle_of memory_store plan c m).result.outcome
+cycle_settled : (plan : Core → ℕ → Plan) (c : Core) (m : Memory) → Settles (cycle_of (memory_store None) plan c m).result.outcome
 unfolding cycle_of
-cycle_settled plan c m = by_answer (memory_store.read m c.ip).answer
+cycle_settled plan c m = by_answer ((memory_store None).read m Purpose.Fetch c.ip).answer
   where
-    by_answer : (r : Result ℕ Stop) → Settles (on_fetch (λ w. carry_out memory_store (plan (advanced c) w)) c (memory_store.read m c.ip).memory r).result.outcome
+    by_answer : (r : Result ℕ Stop) → Settles (on_fetch (λ w. carry_out (memory_store None) (plan (advanced c) w)) c ((memory_store None).read m Purpose.Fetch c.ip).memory r).result.outcome
     by_answer (Ok w) = settle_settled (plan (advanced c) w).core (plan (advanced c) w).access _
     by_answer (Err s) = stop_settled s
 
@@ -98,7 +104,7 @@ abbrev answered_by : Ran Memory → Turn Memory
 answered_by r = turn (answered_of r.steps r.end) r.core r.memory
 
 once : (plan : Core → ℕ → Plan) (o : Outcome) (c : Core) (m : Memory) (l : List ℕ) → Settles o
-    → answered_by (next_of (run_from memory_store plan plain 0 1) 0 [] (logged (turn o c m) l)).result ≡ turn o c m
+    → answered_by (next_of (run_from (memory_store None) plan plain 0 1) 0 [] (logged (turn o c m) l)).result ≡ turn o c m
 unfolding run_until
 once plan stepped c m l e = if_elim (λ (r : Logged (Ran Memory)). answered_by r.result ≡ turn stepped c m) (is_halted c) (λ _. refl) (λ _. refl)
 once plan halted c m l e = refl
@@ -107,7 +113,7 @@ once plan (fault k v) c m l e = refl
 once plan (refused k) c m l e = refl
 once plan (ended k) c m l e = ap (λ (o : Outcome). turn o c m) e
 
-step_once : (plan : Core → ℕ → Plan) (c : Core) (m : Memory) → refusal_of m ≡ 0 → answered_by (run_from memory_store plan plain 1 0 c m []).result ≡ step_of plan c m
+step_once : (plan : Core → ℕ → Plan) (c : Core) (m : Memory) → refusal_of m ≡ 0 → answered_by (run_from (memory_store None) plan plain 1 0 c m []).result ≡ step_of plan c m
 unfolding run_until step_of
 step_once plan c m ok =
     by_test (is_halted c)
@@ -115,7 +121,7 @@ step_once plan c m ok =
     (λ h. rw (eq-eqb (refusal_of m) 0 ok, h) (once plan t.result.outcome t.result.core t.result.memory t.log (cycle_settled plan c m)))
   where
     t : Logged (Turn Memory)
-    t = cycle_of memory_store plan c m
+    t = cycle_of (memory_store None) plan c m
 
 -- the step, by its host tests and the run of one turn
 module _ (c : Core) (mem ms : List ℕ) where
@@ -124,7 +130,7 @@ module _ (c : Core) (mem ms : List ℕ) where
   step_refused r asked = rw (asked, ne_eqb (refusal_of (lent mem ms)) 0 (refuses r asked))
 
   pub step_answered : (x : End) (a : Answer) {n : ℕ} {d : Core} {m' : Memory} → 0 ≡ refusal_of (lent mem ms)
-      → ran (end_of x) n d m' ≡ (run_from memory_store plan_of plain 1 0 c (lent mem ms) []).result
+      → ran (end_of x) n d m' ≡ (run_from (memory_store None) plan_of plain 1 0 c (lent mem ms) []).result
       → answer_of a ≡ answered_of n (end_of x) → turn (answer_of a) d m' ≡ step_of plan_of c (lent mem ms)
   step_answered x a {d = d} {m' = m'} asked run says =
       ap (λ (o : Outcome). turn o d m') says ∙ (ap answered_by run ∙ step_once plan_of c (lent mem ms) (sym asked))

@@ -1,6 +1,3 @@
+pub mod Answers
 pub mod Core
-pub mod Log
-pub mod Memory
-pub mod Outcome
-pub mod Parts
 pub mod Machine

@@ -1,6 +1,6 @@
--- One step and the run (document 01), with its log (document 02, CR 2). What an instruction does, what an access does and what a run does
--- stand apart: an access and a run see an instruction only through its plan.
-use Rattle.std.specs.Prelude.{ℕ, zero, suc, ◌+◌, Bool, true, false, List, [], ◌++◌, length, replicate, ◌==◌, nat_eq, if◌then◌else◌, Result, Ok, Err}
+-- One step and the run (document 01), with its log and its rights (document 02, CR 2 and CR 3). What an instruction does, what an access does and
+-- what a run does stand apart: an access and a run see an instruction only through its plan.
+use Rattle.std.specs.Prelude.{ℕ, zero, suc, ◌+◌, Bool, true, false, List, [], ◌++◌, length, replicate, ◌==◌, nat_eq, if◌then◌else◌, Option, Some, None, Result, Ok, Err}
 use Rattle.instructions.specs.Decoding.{decode_of}
 use Rattle.instructions.specs.declared.ins.Instruction.{Instruction}
 use Rattle.instructions.specs.declared.ins.encoding.Undecodable.{Undecodable}
@@ -12,16 +12,18 @@ use Rattle.execute.specs.Word.{add_word, sub_word}
 use Rattle.execute.specs.declared.effect.Effect.{Effect}
 use Rattle.execute.specs.declared.effect.Effect.TheVariants as effect
 use Rattle.emulator.specs.Core.{write_gpr, write_spr, is_halted}
-use Rattle.emulator.specs.Log.{read_log, Reply, reply_log, Logged, logged, Room, words, is_full, Written, written_of}
-use Rattle.emulator.specs.Memory.{Memory, lent, refused_length, Accessed, accessed, read_of, write_of}
-use Rattle.emulator.specs.Outcome.{Outcome, stepped, halted, limit, fault, refused, ended, stop_of, refusal_number, log_end_number}
+use Rattle.memory.specs.Log.{read_log, Reply, reply_log, Logged, logged, Room, words, is_full, Written, written_of}
+use Rattle.memory.specs.Memory.{Memory, lent, refused_length, Accessed, accessed}
+use Rattle.memory.specs.Rights.{refused_bytes}
+use Rattle.memory.specs.Store.{Store, memory_store}
+use Rattle.memory.specs.Outcome.{Outcome, stepped, halted, limit, fault, refused, ended, stop_of, refusal_number, log_end_number}
 use Rattle.emulator.specs.declared.core_record.Core.{Core}
-use Rattle.emulator.specs.declared.log.Purpose.{Purpose}
-use Rattle.emulator.specs.declared.refusal.Refusal.{Refusal}
-use Rattle.emulator.specs.declared.refusal.LogEnd.{LogEnd}
-use Rattle.emulator.specs.declared.refusal.LogEnd.TheVariants.{Full}
-use Rattle.emulator.specs.declared.stop.Stop.{Stop}
-use Rattle.emulator.specs.declared.stop.Stop.TheVariants as stops
+use Rattle.memory.specs.declared.log.Purpose.{Purpose}
+use Rattle.memory.specs.declared.refusal.Refusal.{Refusal}
+use Rattle.memory.specs.declared.refusal.LogEnd.{LogEnd}
+use Rattle.memory.specs.declared.refusal.LogEnd.TheVariants.{Full}
+use Rattle.memory.specs.declared.stop.Stop.{Stop}
+use Rattle.memory.specs.declared.stop.Stop.TheVariants as stops
 
 -- What an instruction does (One step).
 
@@ -103,15 +105,7 @@ settle_of c (store a v) (Reply.word b w) = settled stepped c
 settle_of c (store a v) (Reply.stopped s) = settled (stop_of s) c
 settle_of c (stop s) x = settled (stop_of s) c
 
--- What an access does (One step; Stops).
-
--- where words are read and written: memory, or what stands in its place
-pub record Store (S : Type 0) : Type 0 where
-  pub read : S → ℕ → Accessed S (Result ℕ Stop)
-  pub write : S → ℕ → ℕ → Accessed S (Result (Unit {0}) Stop)
-
-abbrev pub memory_store : Store Memory
-memory_store = record { read = read_of; write = write_of }
+-- The access made. What it comes to is said in the crate `memory`.
 
 abbrev pub read_reply : ℕ → Result ℕ Stop → Reply
 read_reply a (Ok w) = Reply.word a w
@@ -127,7 +121,7 @@ replied reply x = accessed (reply x.answer) x.memory
 -- the access made
 abbrev pub make_of : {S : Type 0} → Store S → Access → S → Accessed S Reply
 make_of on none m = accessed Reply.done m
-make_of on (load a r up) m = replied (read_reply a) (on.read m a)
+make_of on (load a r up) m = replied (read_reply a) (on.read m Purpose.Read a)
 make_of on (store a v) m = replied write_reply (on.write m a v)
 make_of on (stop s) m = accessed Reply.done m
 
@@ -170,7 +164,7 @@ unfoldable pub refusal_of : Memory → ℕ
 refusal_of m = if refused_length (length m.words) then 1 else (if nat_eq (length m.marks) (length m.words) then 0 else 2)
 
 -- the number by the code's answer
-abbrev pub test_number : Result (Unit {0}) Refusal → ℕ
+abbrev pub test_number : {A : Type 0} → Result A Refusal → ℕ
 test_number (Ok u) = 0
 test_number (Err r) = refusal_number r
 
@@ -200,29 +194,38 @@ next_of more n l t =
     let rest = more r.core r.memory (l ++ t.log) in
     if is_stepped r.outcome then rest else logged (ran r.outcome n r.core r.memory) (l ++ t.log)
 
--- what a run is given besides its core, memory and limit: the room for its log
+-- what a run is given besides its core, memory and limit: the room for its log, and the rights bytes, if any
 pub record Setting : Type 0 where
   pub room : Room
+  pub rights : Option (List ℕ)
 
-abbrev pub setting : Room → Setting
-setting room = record { room = room }
+abbrev pub setting : Room → Option (List ℕ) → Setting
+setting room rights = record { room = room; rights = rights }
 
 -- whether the log is full, once it is l
 abbrev pub full_in : Setting → List ℕ → Bool
 full_in given l = is_full given.room (length l)
 
--- no log; and a log that is kept in a buffer
-abbrev pub plain : Setting
-plain = setting Room.none
+-- no log, with rights bytes or without; no log and no rights; and a log that is kept in a buffer
+abbrev pub unlogged : Option (List ℕ) → Setting
+unlogged = setting Room.none
 
-abbrev pub logging_in : List ℕ → Setting
+abbrev pub plain : Setting
+plain = unlogged None
+
+abbrev pub logging_in : List ℕ → Option (List ℕ) → Setting
 logging_in buffer = setting (words (length buffer))
+
+-- the host tests of a run: those of memory and marks, and then 32, if they refuse nothing (32 is asked first here, so that without rights this is
+-- `refusal_of`)
+abbrev pub refusal_with : Option (List ℕ) → Memory → ℕ
+refusal_with rights m = if refused_bytes rights then (if refusal_of m == 0 then 32 else refusal_of m) else refusal_of m
 
 -- the machine, over what stands for memory and what a word is planned to do
 module _ {S : Type 0} (on : Store S) (plan : Core → ℕ → Plan) where
   -- fetch at ip, add 1 to ip, decode, execute, make the access
   unfoldable pub cycle_of : Core → S → Logged (Turn S)
-  cycle_of c m = after_fetch (λ w. carry_out on (plan (advanced c) w)) c (on.read m c.ip)
+  cycle_of c m = after_fetch (λ w. carry_out on (plan (advanced c) w)) c (on.read m Purpose.Fetch c.ip)
 
   -- the run from a core, k steps left before the limit, n counted and l logged: halt first, then the limit, then whether the log is over,
   -- which is the end of that name, then a step
@@ -246,8 +249,8 @@ pub record RanLogged : Type 0 where
 abbrev pub ran_logged : Ran Memory → Written → RanLogged
 ran_logged r w = record { run = r; log = w }
 
-abbrev pub in_buffer : Setting → List ℕ → Logged (Ran Memory) → RanLogged
-in_buffer given buffer r = ran_logged r.result (written_of given.room r.log buffer)
+abbrev pub in_buffer : List ℕ → Logged (Ran Memory) → RanLogged
+in_buffer buffer r = ran_logged r.result (written_of (words (length buffer)) r.log buffer)
 
 -- all marks 0
 abbrev pub unmarked : Memory → Memory
@@ -258,20 +261,26 @@ module _ (plan : Core → ℕ → Plan) where
   unfoldable pub step_of : Core → Memory → Turn Memory
   step_of c m =
       if refusal_of m == 0
-      then (if is_halted c then turn halted c m else (cycle_of memory_store plan c m).result)
+      then (if is_halted c then turn halted c m else (cycle_of (memory_store None) plan c m).result)
       else turn (refused (refusal_of m)) c m
 
   -- the run in a setting: the host tests, then all marks 0, then the turns
   unfoldable pub run_in : Setting → Core → Memory → ℕ → Logged (Ran Memory)
   run_in given c m up_to =
-      if refusal_of m == 0
-      then run_from memory_store plan given up_to 0 c (unmarked m) []
-      else logged (ran (refused (refusal_of m)) 0 c m) []
+      if refusal_with given.rights m == 0
+      then run_from (memory_store given.rights) plan given up_to 0 c (unmarked m) []
+      else logged (ran (refused (refusal_with given.rights m)) 0 c m) []
 
-  -- the run without a log
-  unfoldable pub run_of : Core → Memory → ℕ → Ran Memory
+  -- the run without a log, and the same with rights
+  abbrev pub run_of : Core → Memory → ℕ → Ran Memory
   run_of c m up_to = (run_in plain c m up_to).result
 
-  -- the run with a buffer lent for its log
-  unfoldable pub run_logged_of : Core → Memory → ℕ → List ℕ → RanLogged
-  run_logged_of c m up_to buffer = in_buffer (logging_in buffer) buffer (run_in (logging_in buffer) c m up_to)
+  abbrev pub run_guarded_of : Core → Memory → List ℕ → ℕ → Ran Memory
+  run_guarded_of c m rights up_to = (run_in (unlogged (Some rights)) c m up_to).result
+
+  -- the run with a buffer lent for its log, and the same with rights
+  abbrev pub run_logged_of : Core → Memory → ℕ → List ℕ → RanLogged
+  run_logged_of c m up_to buffer = in_buffer buffer (run_in (logging_in buffer None) c m up_to)
+
+  abbrev pub run_logged_guarded_of : Core → Memory → List ℕ → ℕ → List ℕ → RanLogged
+  run_logged_guarded_of c m rights up_to buffer = in_buffer buffer (run_in (logging_in buffer (Some rights)) c m up_to)

@@ -1,17 +1,17 @@
 // The core record: its registers, one step, and the run.
-ghost use Rattle.std.specs.Prelude.{◌≡◌, [], length};
+ghost use Rattle.std.specs.Prelude.{◌≡◌, [], length, Some, IfOk};
 ghost use Rattle.emulator.specs.Core.{new_core, read_gpr, write_gpr, read_spr, write_spr, is_halted, is_cond_set, set_cond};
-ghost use Rattle.emulator.specs.Log.{written};
-ghost use Rattle.emulator.specs.Memory.{lent};
-ghost use Rattle.emulator.specs.Outcome.{answer_of, end_of, answered_of};
-ghost use Rattle.emulator.specs.Machine.{plan_of, turn, refusal_of, test_number, step_of, memory_store, plain, run_from, ran, ran_logged, run_of, run_logged_of};
+ghost use Rattle.memory.specs.Log.{written};
+ghost use Rattle.memory.specs.Memory.{lent};
+ghost use Rattle.emulator.specs.Answers.{answer_of, end_of, answered_of};
+ghost use Rattle.memory.specs.Store.{memory_store};
+ghost use Rattle.emulator.specs.Machine.{plan_of, turn, refusal_of, refusal_with, test_number, step_of, unlogged, logging_in, run_from, ran, ran_logged, in_buffer, run_of, run_guarded_of, run_logged_of, run_logged_guarded_of};
+ghost use Rattle.memory.specs.Rights.{bytes_of};
+ghost use Rattle.emulator.specs.declared.cycle.End.TheVariants as ends;
 
 use crate::cycle::{End, turns};
-use crate::logging::LoggedMemory;
-use crate::memory::MarkedMemory;
-use crate::refusal::{Refusal, check_length};
-use crate::stop::Stop;
 use instructions::{GPR, Register, SPR};
+use memory::{LoggedMemory, MarkedMemory, Refusal, Rights, Stop, check_length, check_rights};
 
 #[derive(Clone, Copy, Debug, PartialEq, Eq)]
 pub struct Core {
@@ -63,6 +63,19 @@ fn check(memory: &[u16], marks: &[u8]) -> Result<(), Refusal>
     Ok(())
 }
 
+// The same where rights are given, which are tested last.
+fn check_guarded<'a>(
+    memory: &[u16],
+    marks: &[u8],
+    rights: &'a [u8],
+) -> Result<&'a [u8; 256], Refusal>
+    ensures number { test_number result ≡ refusal_with (Some rights.now) (lent memory.now marks.now) }
+    ensures bytes { IfOk result (λ b. b.now ≡ rights.now) }
+{
+    check(memory, marks)?;
+    check_rights(rights)
+}
+
 // A call that runs nothing: the core as it was given, and why.
 pub fn no_run(core: Core, end: End) -> Run
     ensures { result ≡ record { core = core; steps = 0; end = end } }
@@ -74,13 +87,54 @@ pub fn no_run(core: Core, end: End) -> Run
     }
 }
 
-// The turns of a run or a step without a log. Both call this one function, so that the loop stands in it alone, on slices (docs/PERFORMANCE.md).
-fn plain_turns(core: Core, words: &mut [u16], marks: &mut [u8], limit: u32) -> Run
+// A refused run with a log, of which nothing is logged.
+fn no_logged_run(core: Core, refusal: Refusal) -> LoggedRun
+    ensures { result ≡ record { run = record { core = core; steps = 0; end = ends.Refused refusal }; logged = 0 } }
+{
+    LoggedRun {
+        run: no_run(core, End::Refused(refusal)),
+        logged: 0,
+    }
+}
+
+// The turns of a run or a step without a log. All call this one function, so that the loop stands in it alone, on slices (docs/PERFORMANCE.md).
+fn marked_turns(
+    core: Core,
+    words: &mut [u16],
+    marks: &mut [u8],
+    rights: Rights<'_>,
+    limit: u32,
+) -> Run
     requires { length marks.old ≡ length words.old }
-    ensures { ran (end_of result.end) result.steps result.core (lent words.new marks.new) ≡ (run_from memory_store plan_of plain limit 0 core (lent words.old marks.old) []).result }
+    ensures { ran (end_of result.end) result.steps result.core (lent words.new marks.new) ≡ (run_from (memory_store (bytes_of rights.entry)) plan_of (unlogged (bytes_of rights.entry)) limit 0 core (lent words.old marks.old) []).result }
 {
     let mut lent = MarkedMemory { words, marks };
-    turns(core, &mut lent, limit)
+    turns(core, &mut lent, rights, limit)
+}
+
+// The turns of a run with a log.
+fn logged_turns(
+    core: Core,
+    words: &mut [u16],
+    marks: &mut [u8],
+    rights: Rights<'_>,
+    limit: u32,
+    log: &mut [u32],
+) -> LoggedRun
+    requires { length marks.old ≡ length words.old }
+    ensures { ran_logged (ran (end_of result.run.end) result.run.steps result.run.core (lent words.new marks.new)) (written result.logged log.new) ≡ in_buffer log.old (run_from (memory_store (bytes_of rights.entry)) plan_of (logging_in log.old (bytes_of rights.entry)) limit 0 core (lent words.old marks.old) []) }
+{
+    let mut lent = LoggedMemory {
+        words,
+        marks,
+        log,
+        logged: 0,
+    };
+    let run = turns(core, &mut lent, rights, limit);
+    LoggedRun {
+        run,
+        logged: lent.logged,
+    }
 }
 
 // What a step answers, from the count and the end of a run of one turn.
@@ -173,7 +227,7 @@ impl Core {
                 answer: Answer::Refused(refusal),
             };
         }
-        let run = plain_turns(self, memory, marks, 1);
+        let run = marked_turns(self, memory, marks, None, 1);
         Step {
             core: run.core,
             answer: answered(run.steps, run.end),
@@ -189,7 +243,7 @@ impl Core {
             return no_run(self, End::Refused(refusal));
         }
         marks.fill(0);
-        plain_turns(self, memory, marks, limit)
+        marked_turns(self, memory, marks, None, limit)
     }
 
     // The run with a log of its reads, which is written to the front of the lent one. It also ends where fewer than four words are free.
@@ -204,20 +258,42 @@ impl Core {
         ensures { ran_logged (ran (end_of result.run.end) result.run.steps result.run.core (lent memory.new marks.new)) (written result.logged log.new) ≡ run_logged_of plan_of self (lent memory.old marks.old) limit log.old }
     {
         if let Err(refusal) = check(memory, marks) {
-            let run = no_run(self, End::Refused(refusal));
-            return LoggedRun { run, logged: 0 };
+            return no_logged_run(self, refusal);
         }
         marks.fill(0);
-        let mut lent = LoggedMemory {
-            words: memory,
-            marks,
-            log,
-            logged: 0,
+        logged_turns(self, memory, marks, None, limit, log)
+    }
+
+    // The run with rights over memory's pages: an access that the rights don't allow is a fault.
+    #[tactic(auto, using(crate::proofs::Laws::accepted))]
+    pub fn run_guarded(self, memory: &mut [u16], marks: &mut [u8], rights: &[u8], limit: u32) -> Run
+        ensures { ran (end_of result.end) result.steps result.core (lent memory.new marks.new) ≡ run_guarded_of plan_of self (lent memory.old marks.old) rights.now limit }
+    {
+        let rights = match check_guarded(memory, marks, rights) {
+            Ok(rights) => rights,
+            Err(refusal) => return no_run(self, End::Refused(refusal)),
         };
-        let run = turns(self, &mut lent, limit);
-        LoggedRun {
-            run,
-            logged: lent.logged,
-        }
+        marks.fill(0);
+        marked_turns(self, memory, marks, Some(rights), limit)
+    }
+
+    // The run with rights and with a log.
+    #[tactic(auto, using(crate::proofs::Laws::accepted))]
+    pub fn run_logged_guarded(
+        self,
+        memory: &mut [u16],
+        marks: &mut [u8],
+        rights: &[u8],
+        limit: u32,
+        log: &mut [u32],
+    ) -> LoggedRun
+        ensures { ran_logged (ran (end_of result.run.end) result.run.steps result.run.core (lent memory.new marks.new)) (written result.logged log.new) ≡ run_logged_guarded_of plan_of self (lent memory.old marks.old) rights.now limit log.old }
+    {
+        let rights = match check_guarded(memory, marks, rights) {
+            Ok(rights) => rights,
+            Err(refusal) => return no_logged_run(self, refusal),
+        };
+        marks.fill(0);
+        logged_turns(self, memory, marks, Some(rights), limit, log)
     }
 }

@@ -1,16 +1,14 @@
 // One cycle and the loop of cycles, on any store. The loop has the core in a variable of its own and lends it to each cycle.
 ghost use Rattle.std.specs.Prelude.{◌≡◌, ◌++◌, [], List, ℕ};
-ghost use Rattle.emulator.specs.Log.{logged};
-ghost use Rattle.emulator.specs.Outcome.{progress_of, end_of};
+ghost use Rattle.memory.specs.Log.{logged};
+ghost use Rattle.emulator.specs.Answers.{progress_of, end_of};
+ghost use Rattle.memory.specs.Rights.{bytes_of};
 ghost use Rattle.emulator.specs.Machine.{access_of, after_of, planned, plan_of, turn, carry_out, cycle_of, ran, run_until};
 
 use crate::core_record::{Core, Run};
-use crate::log::Purpose;
-use crate::refusal::{LogEnd, Refusal};
-use crate::stop::Stop;
-use crate::store::Store;
 use execute::{Effect, execute};
 use instructions::{Instruction, Register};
+use memory::{LogEnd, Purpose, Refusal, Rights, Stop, Store};
 
 // How a run ends.
 #[derive(Clone, Copy, Debug, PartialEq, Eq)]
@@ -23,9 +21,14 @@ pub enum End {
 }
 
 // Changes the registers as the effect says, and makes its access.
-fn obey<S: Store>(core: &mut Core, effect: Effect, store: &mut S) -> Result<(), Stop>
-    ensures turn { turn (progress_of result) core.new (S.seen store.new) ≡ (carry_out S.store (planned (after_of core.old effect) (access_of effect)) (S.seen store.old)).result }
-    ensures noted { (start : S) (l : List ℕ) → S.Noted start store.old l → S.Noted start store.new (l ++ (carry_out S.store (planned (after_of core.old effect) (access_of effect)) (S.seen store.old)).log) }
+fn obey<S: Store>(
+    core: &mut Core,
+    effect: Effect,
+    store: &mut S,
+    rights: Rights<'_>,
+) -> Result<(), Stop>
+    ensures turn { turn (progress_of result) core.new (S.seen store.new) ≡ (carry_out (S.store (bytes_of rights.entry)) (planned (after_of core.old effect) (access_of effect)) (S.seen store.old)).result }
+    ensures noted { (start : S) (l : List ℕ) → S.Noted start store.old l → S.Noted start store.new (l ++ (carry_out (S.store (bytes_of rights.entry)) (planned (after_of core.old effect) (access_of effect)) (S.seen store.old)).log) }
 {
     match effect {
         Effect::None => {}
@@ -43,7 +46,7 @@ fn obey<S: Store>(core: &mut Core, effect: Effect, store: &mut S) -> Result<(), 
             into,
             raise,
         } => {
-            let word = store.read(Purpose::Read, address)?;
+            let word = store.read(rights, Purpose::Read, address)?;
             core.gprs[into.encode() as usize] = word;
             core.sp = execute::add(core.sp, raise);
         }
@@ -53,7 +56,7 @@ fn obey<S: Store>(core: &mut Core, effect: Effect, store: &mut S) -> Result<(), 
             lower,
         } => {
             core.sp = execute::sub(core.sp, lower);
-            store.write(address, value)?;
+            store.write(rights, address, value)?;
         }
         Effect::Decimal(word) => return Err(Stop::Decimal(word)),
         Effect::Amount(amount) => return Err(Stop::Amount(amount)),
@@ -63,22 +66,22 @@ fn obey<S: Store>(core: &mut Core, effect: Effect, store: &mut S) -> Result<(), 
 }
 
 // Fetches at ip, advances ip, and obeys the word.
-fn cycle<S: Store>(core: &mut Core, store: &mut S) -> Result<(), Stop>
-    ensures turn { turn (progress_of result) core.new (S.seen store.new) ≡ (cycle_of S.store plan_of core.old (S.seen store.old)).result }
-    ensures noted { (start : S) (l : List ℕ) → S.Noted start store.old l → S.Noted start store.new (l ++ (cycle_of S.store plan_of core.old (S.seen store.old)).log) }
+fn cycle<S: Store>(core: &mut Core, store: &mut S, rights: Rights<'_>) -> Result<(), Stop>
+    ensures turn { turn (progress_of result) core.new (S.seen store.new) ≡ (cycle_of (S.store (bytes_of rights.entry)) plan_of core.old (S.seen store.old)).result }
+    ensures noted { (start : S) (l : List ℕ) → S.Noted start store.old l → S.Noted start store.new (l ++ (cycle_of (S.store (bytes_of rights.entry)) plan_of core.old (S.seen store.old)).log) }
 {
-    let word = store.read(Purpose::Fetch, core.ip)?;
+    let word = store.read(rights, Purpose::Fetch, core.ip)?;
     core.ip = execute::add(core.ip, 1);
     let ins = Instruction::decode(word)?;
     let effect = execute(ins, word, &core.gprs, core.ip, core.rp, core.sp, core.ef);
-    obey(core, effect, store)
+    obey(core, effect, store, rights)
 }
 
 // Cycles up to the limit: each turn tests halt first, then the limit, then the log. A cycle that faults isn't counted. (A `for` up to the limit would test
 // the limit before halt.)
-pub fn turns<S: Store>(mut core: Core, store: &mut S, limit: u32) -> Run
-    ensures run { ran (end_of result.end) result.steps result.core (S.seen store.new) ≡ (run_until S.store plan_of (S.over store.old) S.why limit 0 core (S.seen store.old) []).result }
-    ensures noted { S.Noted store.old store.new (run_until S.store plan_of (S.over store.old) S.why limit 0 core (S.seen store.old) []).log }
+pub fn turns<S: Store>(mut core: Core, store: &mut S, rights: Rights<'_>, limit: u32) -> Run
+    ensures run { ran (end_of result.end) result.steps result.core (S.seen store.new) ≡ (run_until (S.store (bytes_of rights.entry)) plan_of (S.over store.old) S.why limit 0 core (S.seen store.old) []).result }
+    ensures noted { S.Noted store.old store.new (run_until (S.store (bytes_of rights.entry)) plan_of (S.over store.old) S.why limit 0 core (S.seen store.old) []).log }
 {
     let mut steps: u32 = 0;
     let end = loop {
@@ -91,7 +94,7 @@ pub fn turns<S: Store>(mut core: Core, store: &mut S, limit: u32) -> Run
         if let Some(end) = store.log_end() {
             break End::Log(end);
         }
-        if let Err(stop) = cycle(&mut core, store) {
+        if let Err(stop) = cycle(&mut core, store, rights) {
             break End::Fault(stop);
         }
         steps += 1;

@@ -1,7 +1,7 @@
 // The step on a core that is lent for writing.
 ghost use Rattle.std.specs.Prelude.{◌≡◌};
-ghost use Rattle.emulator.specs.Outcome.{answer_of};
-ghost use Rattle.emulator.specs.Memory.{lent};
+ghost use Rattle.emulator.specs.Answers.{answer_of};
+ghost use Rattle.memory.specs.Memory.{lent};
 ghost use Rattle.emulator.specs.Machine.{plan_of, turn, step_of};
 
 use crate::core_record::{Answer, Core};

@@ -2,7 +2,7 @@
 use mathlib.Core.List.{[], ◌∷◌, ◌++◌, map}
 use mathlib.Core.Path.{◌≡◌, refl}
 use Rattle.emulator.specs.Core.{core_of}
-use Rattle.emulator.specs.Outcome.{halted, limit, fault, refused}
+use Rattle.memory.specs.Outcome.{halted, limit, fault, refused}
 use Rattle.line.specs.Decimal.{digits_of, decimal_of}
 use Rattle.line.specs.Line.{fields, row, end_line}
 

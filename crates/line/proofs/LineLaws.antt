@@ -7,9 +7,9 @@ use lib.ListN.{length, get_or, take, replicate, length-append}
 use lib.Seq.{take-suc}
 use Rattle.std.specs.Prelude.{Result, Ok}
 use Rattle.emulator.specs.declared.core_record.Core.{Core}
-use Rattle.emulator.specs.Memory.{Memory, lent}
+use Rattle.memory.specs.Memory.{Memory, lent}
 use Rattle.emulator.specs.Machine.{plan_of, ran, run_of}
-use Rattle.emulator.specs.Outcome.{Outcome}
+use Rattle.memory.specs.Outcome.{Outcome}
 use Rattle.sheet.specs.declared.refusal.SheetRefusal.{SheetRefusal}
 use Rattle.sheet.specs.Load.{left, load_sheet_of}
 use Rattle.line.specs.Line.{field, fields, end_line, sheet_line}

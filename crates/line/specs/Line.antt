@@ -1,8 +1,9 @@
 -- The line that `berth` prints (document 01, the program).
 use Rattle.std.specs.Prelude.{ℕ, Result, Ok, Err, List, [], ◌∷◌, ◌++◌, replicate}
 use Rattle.emulator.specs.declared.core_record.Core.{Core}
-use Rattle.emulator.specs.Memory.{Memory, lent}
-use Rattle.emulator.specs.Outcome.{Outcome, stepped, halted, limit, fault, refused, ended, end_of}
+use Rattle.memory.specs.Memory.{Memory, lent}
+use Rattle.memory.specs.Outcome.{Outcome, stepped, halted, limit, fault, refused, ended}
+use Rattle.emulator.specs.Answers.{end_of}
 use Rattle.emulator.specs.Machine.{plan_of, Ran, run_of}
 use Rattle.emulator.specs.declared.core_record.Run.{Run}
 use Rattle.sheet.specs.declared.refusal.SheetRefusal.{SheetRefusal}

@@ -5,7 +5,8 @@ ghost use Rattle.sheet.specs.Refusal.{sheet_refusal_number};
 ghost use Rattle.line.specs.Line.{fields, state_of, refused_line, run_line, sheet_line, line_of};
 
 use crate::line::{Line, push_field, push_fields, push_word};
-use emulator::{End, Fault, Run};
+use emulator::{End, Run};
+use memory::Fault;
 use sheet::{SheetRefusal, load_sheet, records};
 
 // Pushes what a run leaves, and the line feed: at most 84 bytes.

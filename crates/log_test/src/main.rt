@@ -2,9 +2,10 @@
 // shorter, and with one word changed.
 #![tactic(auto)]
 
-use emulator::{Core, End, Fault, LoggedRun, Run};
+use emulator::{Core, LoggedRun, Run};
 use replay::replay;
-use std::{fmt, io};
+use shown::Shown;
+use std::io;
 
 // putl r0 6; read r1 from [r0]; write r1 to [r0]; read r2 from [r0]; hlt; and at address 6 the word 42. Seven reads, five of them fetches.
 const RULE: [u16; 7] = [0x1006, 0x2001, 0x2081, 0x2002, 0xFFFF, 0, 42];
@@ -12,25 +13,6 @@ const RULE: [u16; 7] = [0x1006, 0x2001, 0x2081, 0x2002, 0xFFFF, 0, 42];
 const LIMIT: u32 = 9;
 
 const ROOM: usize = 20;
-
-// An end as it is printed.
-#[derive(Drop)]
-struct Shown(End);
-
-impl fmt::Display for Shown {
-    fn fmt<W: fmt::Write>(&self, f: &mut fmt::Formatter<W>) -> fmt::Result {
-        match self.0 {
-            End::Halted => write!(f, "halted"),
-            End::Limit => write!(f, "limit"),
-            End::Fault(stop) => {
-                let fault = Fault::from(stop);
-                write!(f, "fault {} {}", fault.number, fault.value)
-            }
-            End::Refused(refusal) => write!(f, "refused {}", refusal.number()),
-            End::Log(end) => write!(f, "log {}", end.number()),
-        }
-    }
-}
 
 // A run with a log: its end, steps and number of log words, and the whole buffer.
 fn show_run(rt: &impl Print, log: &mut [u32]) -> io::Result<()> {

@@ -3,9 +3,9 @@
 use Rattle.std.specs.Prelude.{ℕ, Result, Ok, Err, ◌+◌, ◌*◌, ◌^◌, List, [], ◌∷◌, ◌++◌, take, slice_index}
 use Rattle.emulator.specs.declared.core_record.Core.{Core}
 use Rattle.emulator.specs.Core.{core_of}
-use Rattle.emulator.specs.Memory.{Memory}
+use Rattle.memory.specs.Memory.{Memory}
 use Rattle.emulator.specs.Machine.{Turn, Ran}
-use Rattle.emulator.specs.Outcome as machine
+use Rattle.memory.specs.Outcome as machine
 use Rattle.sheet.specs.declared.refusal.SheetRefusal.{SheetRefusal}
 use Rattle.sheet.specs.Refusal.{sheet_refusal_number}
 use Rattle.sheet.specs.Load.{Left}

@@ -1,8 +1,9 @@
-// What hosts' calls share: the core as words, and the numbers that they answer. The exports of `nilguseg_c`, `nilguseg_log` and `nilguseg_replay` stand on it.
+// What hosts' calls share: the core as words, and the numbers that they answer. The exports of `nilguseg_c`, `nilguseg_guarded`, `nilguseg_log` and `nilguseg_replay`
+// stand on it.
 #![tactic(auto)]
 
 ghost use Rattle.std.specs.Prelude.{◌≡◌, [], ◌∷◌};
-ghost use Rattle.emulator.specs.Outcome.{answer_of, end_of};
+ghost use Rattle.emulator.specs.Answers.{answer_of, end_of};
 ghost use Rattle.nilguseg.specs.Host.{words_of, call, outcome_number, ended_call, loaded_number};
 
 use crate::core_record::put_core;

@@ -1,9 +1,10 @@
 // The numbers that a call answers to C. They are functions, since a number alone doesn't say of what it is, and neither side of most is of this crate.
 ghost use Rattle.std.specs.Prelude.{◌≡◌};
-ghost use Rattle.emulator.specs.Outcome.{answer_of, end_of};
+ghost use Rattle.emulator.specs.Answers.{answer_of, end_of};
 ghost use Rattle.nilguseg.specs.Host.{answered, outcome_number, loaded_number, written_number, order_number};
 
-use emulator::{Answer, End, Fault};
+use emulator::{Answer, End};
+use memory::Fault;
 use sheet::SheetRefusal;
 use std::cmp::Ordering;
 

@@ -3,7 +3,7 @@
 #![tactic(auto)]
 
 ghost use Rattle.std.specs.Prelude.{◌≡◌, [], ◌∷◌};
-ghost use Rattle.emulator.specs.Memory.{lent};
+ghost use Rattle.memory.specs.Memory.{lent};
 ghost use Rattle.emulator.specs.Machine.{plan_of, step_of, run_of};
 ghost use Rattle.order.specs.Order.{order_of, part_of};
 ghost use Rattle.sheet.specs.Load.{load_words_of, load_sheet_of};

@@ -2,20 +2,35 @@
 // `execute` would have two callers, and the compiler would inline them into neither loop.
 #![tactic(auto)]
 
-ghost use Rattle.std.specs.Prelude.{[], ◌∷◌, ◌≡◌};
+ghost use Rattle.std.specs.Prelude.{[], ◌∷◌, ◌≡◌, Some, None};
 ghost use Rattle.emulator.specs.Machine.{plan_of};
 ghost use Rattle.nilguseg.specs.Host.{core_from, call};
 ghost use Rattle.nilguseg_replay.specs.Host.{replay_call};
 ghost use Rattle.replay.specs.Replay.{replay_of};
 
 use nilguseg::{core_of, put_run};
-use replay::replay;
+use replay::{replay, replay_guarded};
 
 // The run that made the log, seen again: `size` is the length of the memory that it ran on.
 #[unsafe(no_mangle)]
 pub extern "C" fn nilguseg_replay(core: &mut [u16; 12], size: usize, limit: u32, log: &[u32]) -> u64
-    ensures { call result (core.new ∷ []) ≡ replay_call (replay_of plan_of (core_from core.old) size limit log.now) }
+    ensures { call result (core.new ∷ []) ≡ replay_call (replay_of plan_of None (core_from core.old) size limit log.now) }
 {
     let run = replay(core_of(*core), size, limit, log);
     put_run(run, core)
+}
+
+// The same of a run with rights.
+#[unsafe(no_mangle)]
+pub extern "C" fn nilguseg_replay_guarded(
+    core: &mut [u16; 12],
+    size: usize,
+    rights: &[u8],
+    limit: u32,
+    log: &[u32],
+) -> u64
+    ensures { call result (core.new ∷ []) ≡ replay_call (replay_of plan_of (Some rights.now) (core_from core.old) size limit log.now) }
+{
+    let seen = replay_guarded(core_of(*core), size, rights, limit, log);
+    put_run(seen, core)
 }

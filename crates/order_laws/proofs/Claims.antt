@@ -7,7 +7,7 @@ use Rattle.std.proofs.lemmas.List.{ext_get_or, append-nil, get_or_past, get_or-r
 use Rattle.std.specs.Cmp.{IsTotalOrder}
 use Rattle.std.specs.Ordering.{ordering_reverse}
 use Rattle.std.specs.declared.cmp.Ordering.{Ordering}
-use Rattle.emulator.specs.Memory.{refused_length}
+use Rattle.memory.specs.Memory.{refused_length}
 use Rattle.order.specs.Order.{word_in, place_of, order_of, Slice, earlier_part}
 use Rattle.std.specs.Prelude.{Err}
 use Rattle.sheet.specs.declared.refusal.SheetRefusal.TheVariants.{LongList}

@@ -1,16 +1,20 @@
 -- The replay's loop ends where the log is left; what it answers is what the whole run on the tape would.
-use Rattle.std.specs.Prelude.{◌≡◌, ℕ, zero, suc, ◌+◌, Bool, true, false, ◌&&◌, not, List, [], ◌++◌, length, drop, eqb, if◌then◌else◌}
+use Rattle.std.specs.Prelude.{◌≡◌, ℕ, zero, suc, ◌+◌, Bool, true, false, ◌&&◌, not, List, [], ◌++◌, length, drop, eqb, if◌then◌else◌, Option, Some, Ok, Err}
 use mathlib.Core.List.{append-nil, append_assoc}
 use mathlib.Core.Path.{refl, sym, ap, ◌∙◌}
 use native.Mathlib.Omega.{arith}
 use Rattle.instructions.proofs.Cases.{if_elim, if_both}
 use Rattle.emulator.specs.Core.{is_halted}
-use Rattle.emulator.specs.Log.{read_log, Logged}
-use Rattle.emulator.specs.Memory.{refused_length}
-use Rattle.emulator.specs.Outcome.{Outcome, refused, ended}
-use Rattle.emulator.specs.Machine.{Plan, plan_of, Store, Turn, cycle_of, Ran, ran, is_stepped, next_of, plain, full_in, run_until, run_from}
+use Rattle.memory.specs.Log.{read_log, Logged}
+use Rattle.memory.specs.Memory.{length_test}
+use Rattle.memory.specs.Outcome.{Outcome, refused, ended, refusal_number}
+use Rattle.memory.specs.Store.{Store}
+use Rattle.emulator.specs.Machine.{Plan, plan_of, Turn, cycle_of, Ran, ran, is_stepped, next_of, plain, unlogged, full_in, run_until, run_from}
 use Rattle.emulator.specs.declared.core_record.Core.{Core}
-use Rattle.emulator.specs.declared.refusal.LogEnd.{LogEnd}
+use Rattle.memory.specs.Rights.{refused_bytes, rights_test}
+use Rattle.memory.specs.declared.refusal.LogEnd.{LogEnd}
+use Rattle.memory.specs.declared.refusal.Refusal.{Refusal}
+use Rattle.memory.proofs.Laws.{length_passes, length_fails, rights_pass, rights_fail}
 use Rattle.emulator.proofs.Keeps.{Leads, next_leads, run_leads}
 use Rattle.replay.specs.Places.{begins}
 use Rattle.replay.specs.Replay.{Tape, tape, tape_store, Replayed, replayed, answer_of, replay_of}
@@ -26,7 +30,7 @@ begins_leads on =
     record {
       same = λ l m. record { more = []; is = sym (append-nil l) };
       next = λ p q. record { more = p.more ++ q.more; is = q.is ∙ rw (p.is, append_assoc) };
-      read = λ p l m a. record { more = read_log p a (on.read m a).answer; is = refl };
+      read = λ p l m a. record { more = read_log p a (on.read m p a).answer; is = refl };
       write = λ l m a v. record { more = []; is = sym (append-nil l) };
     }
 
@@ -57,20 +61,16 @@ module _ {S : Type 0} (on : Store S) (plan : Core → ℕ → Plan) (over : List
       on' : Core → S → List ℕ → Logged (Ran S)
       on' = run_from on plan plain k (n + 1)
 
--- what the loop leaves of the tape, and the replay by that
-module _ (c : Core) (size most : ℕ) (log : List ℕ) where
+-- what the loop leaves of the tape, and the answer by that
+module _ (rights : Option (List ℕ)) (c : Core) (size most : ℕ) (log : List ℕ) where
   abbrev off : List ℕ → Bool
   off l = not (true && begins l log)
 
   abbrev looped : Logged (Ran Tape)
-  looped = run_until tape_store plan_of off LogEnd.Mismatch most 0 c (tape size log) []
+  looped = run_until (tape_store rights) plan_of off LogEnd.Mismatch most 0 c (tape size log) []
 
   abbrev run : Logged (Ran Tape)
-  run = run_from tape_store plan_of plain most 0 c (tape size log) []
-
-  pub replay_refused : refused_length size ≡ true → replayed (refused 1) 0 c ≡ replay_of plan_of c size most log
-  unfolding replay_of
-  replay_refused e = rw e
+  run = run_from (tape_store rights) plan_of (unlogged rights) most 0 c (tape size log) []
 
   left_off : (b : Bool) → not (true && b) ≡ true → b ≡ false
   left_off true e = absurd (let z : ◌≡◌ {A = ℕ} 0 1 = cc in omega arith)
@@ -84,15 +84,33 @@ module _ (c : Core) (size most : ℕ) (log : List ℕ) where
   answered (whole u) = rw (← u, same_is looped.log log)
   answered (cut e b) = rw (same_is run.log log, b.is, begins_append looped.log b.more log, left_off _ e)
 
-  module _ (accepted : refused_length size ≡ false) {m read : Bool} {t : List ℕ} (so : m ≡ (true && begins looped.log log)) (at : t ≡ drop (length looped.log) log)
-      (asked : read ≡ (m && eqb (length t) 0)) where
-    told : answer read ≡ replay_of plan_of c size most log
-    unfolding replay_of
-    told = rw (accepted, asked, so, at) (answered (until tape_store plan_of off LogEnd.Mismatch most 0 c (tape size log) []))
+  module _ {m read : Bool} {t : List ℕ} (so : m ≡ (true && begins looped.log log)) (at : t ≡ drop (length looped.log) log) (asked : read ≡ (m && eqb (length t) 0)) where
+    told : answer read ≡ answer_of c log run
+    told = rw (asked, so, at) (answered (until (tape_store rights) plan_of off LogEnd.Mismatch most 0 c (tape size log) []))
 
     -- the log is that of the run, and it isn't
-    pub replay_seen : {o : Outcome} {n : ℕ} {d : Core} {x : Tape} → ran o n d x ≡ looped.result → read ≡ true → replayed o n d ≡ replay_of plan_of c size most log
-    replay_seen left e = ap (λ (r : Ran Tape). replayed r.end r.steps r.core) left ∙ rw e at told
+    pub turns_seen : {o : Outcome} {n : ℕ} {d : Core} {x : Tape} → ran o n d x ≡ looped.result → read ≡ true → replayed o n d ≡ answer_of c log run
+    turns_seen left e = ap (λ (r : Ran Tape). replayed r.end r.steps r.core) left ∙ rw e at told
 
-    pub replay_off : read ≡ false → replayed (ended 31) 0 c ≡ replay_of plan_of c size most log
-    replay_off e = rw e at told
+    pub turns_off : read ≡ false → replayed (ended 31) 0 c ≡ answer_of c log run
+    turns_off e = rw e at told
+
+  -- the replay, by its host tests
+  pub length_refused : {r : Refusal} → Err r ≡ length_test size → replayed (refused (refusal_number r)) 0 c ≡ replay_of plan_of rights c size most log
+  unfolding replay_of
+  length_refused e = let f = length_fails size e in rw (f.1, f.0)
+
+  pub replay_accepted : {u : Unit {0}} → Ok u ≡ length_test size → refused_bytes rights ≡ false
+      → {r : Replayed} → r ≡ answer_of c log run → r ≡ replay_of plan_of rights c size most log
+  unfolding replay_of
+  replay_accepted passed e t = rw (length_passes size passed, e) t
+
+-- with rights bytes
+module _ (bytes : List ℕ) (c : Core) (size most : ℕ) (log : List ℕ) {u : Unit {0}} (passed : Ok u ≡ length_test size) where
+  pub guarded_refused : {r : Refusal} → Err r ≡ rights_test bytes → replayed (refused (refusal_number r)) 0 c ≡ replay_of plan_of (Some bytes) c size most log
+  unfolding replay_of
+  guarded_refused e = let f = rights_fail bytes e in rw (f.1, length_passes size passed, f.0)
+
+  pub guarded_accepted : {b : List ℕ} → Ok b ≡ rights_test bytes
+      → {r : Replayed} → r ≡ answer_of c log (run (Some b) c size most log) → r ≡ replay_of plan_of (Some bytes) c size most log
+  guarded_accepted e t = let p = rights_pass bytes e in replay_accepted (Some bytes) c size most log passed p.0 (rw p.1 at t)

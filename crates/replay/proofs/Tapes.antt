@@ -6,8 +6,8 @@ use lib.ListN.{length-append, drop_of_length-le}
 use lib.Seq.{drop-drop}
 use borrow.Author.Tests.{eq-eqb, ne_eqb, eqb-true, eqb-false}
 use Rattle.instructions.proofs.Cases.{by_test}
-use Rattle.emulator.specs.Log.{address_word, value_word, entry_of}
-use Rattle.emulator.specs.declared.log.Purpose.{Purpose}
+use Rattle.memory.specs.Log.{address_word, value_word, entry_of}
+use Rattle.memory.specs.declared.log.Purpose.{Purpose}
 use Rattle.replay.specs.Places.{begins, is_entry}
 use Rattle.replay.specs.Replay.{same}
 

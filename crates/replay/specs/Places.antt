@@ -1,7 +1,7 @@
 -- What the log in memory's place promises. Nothing here says what a replay is: its promises are proved to come to `replay_of`.
 use Rattle.std.specs.Prelude.{ℕ, Bool, true, false, ◌&&◌, List, [], ◌∷◌, ◌≡◌, refl, eqb, if◌then◌else◌, ◌%◌}
-use Rattle.emulator.specs.Log.{entry_of}
-use Rattle.emulator.specs.declared.log.Purpose.{Purpose}
+use Rattle.memory.specs.Log.{entry_of}
+use Rattle.memory.specs.declared.log.Purpose.{Purpose}
 
 -- whether the second list begins with the first
 unfoldable pub begins : List ℕ → List ℕ → Bool

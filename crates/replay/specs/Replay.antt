@@ -1,12 +1,15 @@
--- The replay of a log, without the memory (document 02, CR 2).
-use Rattle.std.specs.Prelude.{ℕ, ◌%◌, Bool, true, false, List, [], ◌∷◌, ltb, eqb, get_or, drop, if◌then◌else◌, Result, Ok, Err}
-use Rattle.emulator.specs.Log.{Logged}
-use Rattle.emulator.specs.Memory.{refused_length, Accessed, accessed}
-use Rattle.emulator.specs.Outcome.{Outcome, refused, ended}
-use Rattle.emulator.specs.Machine.{Plan, Store, Ran, plain, run_from}
+-- The replay of a log, without the memory (document 02, CR 2), and with rights (CR 3).
+use Rattle.std.specs.Prelude.{ℕ, ◌%◌, Bool, true, false, List, [], ◌∷◌, eqb, get_or, drop, if◌then◌else◌, Option, Result, Ok}
+use Rattle.memory.specs.Log.{Logged}
+use Rattle.memory.specs.Memory.{refused_length, Accessed, accessed, place_of, at_place}
+use Rattle.memory.specs.Rights.{right_of, refused_bytes}
+use Rattle.memory.specs.Outcome.{Outcome, refused, ended}
+use Rattle.memory.specs.Store.{Store}
+use Rattle.emulator.specs.Machine.{Plan, Ran, unlogged, run_from}
 use Rattle.emulator.specs.declared.core_record.Core.{Core}
-use Rattle.emulator.specs.declared.stop.Stop.{Stop}
-use Rattle.emulator.specs.declared.stop.Stop.TheVariants.{OutOfRange}
+use Rattle.memory.specs.declared.log.Purpose.{Purpose}
+use Rattle.memory.specs.declared.rights.Right.{Right}
+use Rattle.memory.specs.declared.stop.Stop.{Stop}
 
 -- what stands in memory's place: its length, and the log words that are still to be read
 pub record Tape : Type 0 where
@@ -20,17 +23,15 @@ tape n l = record { size = n; rest = l }
 abbrev pub word_in : List ℕ → ℕ
 word_in l = get_or l 1 0 % 65536
 
-unfoldable pub read_tape : Tape → ℕ → Accessed Tape (Result ℕ Stop)
-read_tape t a =
-    if ltb a t.size
-    then accessed (Ok (word_in t.rest)) (tape t.size (drop 2 t.rest))
-    else accessed (Err (OutOfRange a)) t
+unfoldable pub read_tape : Option (List ℕ) → Tape → Purpose → ℕ → Accessed Tape (Result ℕ Stop)
+read_tape rights t p a =
+    at_place (place_of rights t.size (right_of p) a) (λ k. accessed (Ok (word_in t.rest)) (tape t.size (drop 2 t.rest))) t
 
-unfoldable pub write_tape : Tape → ℕ → ℕ → Accessed Tape (Result (Unit {0}) Stop)
-write_tape t a v = if ltb a t.size then accessed (Ok tt) t else accessed (Err (OutOfRange a)) t
+unfoldable pub write_tape : Option (List ℕ) → Tape → ℕ → ℕ → Accessed Tape (Result (Unit {0}) Stop)
+write_tape rights t a v = at_place (place_of rights t.size Right.Write a) (λ k. accessed (Ok tt) t) t
 
-abbrev pub tape_store : Store Tape
-tape_store = record { read = read_tape; write = write_tape }
+abbrev pub tape_store : Option (List ℕ) → Store Tape
+tape_store rights = record { read = read_tape rights; write = write_tape rights }
 
 -- what a replay answers: the end, the steps and the registers
 pub record Replayed : Type 0 where
@@ -56,9 +57,11 @@ answer_of c log r =
     then replayed r.result.end r.result.steps r.result.core
     else replayed (ended 31) 0 c
 
--- the replay of a log with a core, the memory's length and the limit: first host test 1
-unfoldable pub replay_of : (Core → ℕ → Plan) → Core → ℕ → ℕ → List ℕ → Replayed
-replay_of plan c size up_to log =
+-- the replay of a log with the rights bytes, if any, a core, the memory's length and the limit: first the host tests
+unfoldable pub replay_of : (Core → ℕ → Plan) → Option (List ℕ) → Core → ℕ → ℕ → List ℕ → Replayed
+replay_of plan rights c size up_to log =
     if refused_length size
     then replayed (refused 1) 0 c
-    else answer_of c log (run_from tape_store plan plain up_to 0 c (tape size log) [])
+    else (if refused_bytes rights
+    then replayed (refused 32) 0 c
+    else answer_of c log (run_from (tape_store rights) plan (unlogged rights) up_to 0 c (tape size log) []))

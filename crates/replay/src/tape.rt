@@ -2,9 +2,9 @@
 ghost use Rattle.std.specs.Prelude.{◌≡◌, ◌&&◌, length, drop, eqb, not, refl};
 ghost use Rattle.replay.specs.Places.{is_entry, begins, begun};
 ghost use Rattle.replay.specs.Replay.{Tape, tape, tape_store};
-ghost use Rattle.emulator.specs.declared.refusal.LogEnd.TheVariants.{Mismatch};
+ghost use Rattle.memory.specs.declared.refusal.LogEnd.TheVariants.{Mismatch};
 
-use emulator::{LogEnd, Purpose, Stop, Store, address_word, place};
+use memory::{LogEnd, Purpose, Right, Rights, Stop, Store, address_word, place};
 
 // Whether two log words are the read.
 fn is_entry(purpose: Purpose, address: u16, named: u32, value: u32) -> bool
@@ -45,8 +45,8 @@ impl Store for LogTape<'_> {
     ghost why = { Mismatch };
 
     #[tactic(auto, unfolding(crate::specs::Replay::read_tape))]
-    fn read(&mut self, purpose: Purpose, address: u16) -> Result<u16, Stop> {
-        place(self.size, address)?;
+    fn read(&mut self, rights: Rights<'_>, purpose: Purpose, address: u16) -> Result<u16, Stop> {
+        place(self.size, rights, purpose.right(), address)?;
         let Some((entry, rest)) = self.rest.split_first_chunk::<2>() else {
             self.rest = &[];
             self.matches = false;
@@ -59,8 +59,8 @@ impl Store for LogTape<'_> {
     }
 
     #[tactic(auto, unfolding(crate::specs::Replay::write_tape))]
-    fn write(&mut self, address: u16, _value: u16) -> Result<(), Stop> {
-        place(self.size, address)?;
+    fn write(&mut self, rights: Rights<'_>, address: u16, _value: u16) -> Result<(), Stop> {
+        place(self.size, rights, Right::Write, address)?;
         Ok(())
     }
 

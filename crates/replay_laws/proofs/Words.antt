@@ -23,7 +23,7 @@ use Rattle.execute_laws.proofs.Words.{reduced, words}
 use Rattle.emulator.specs.Core.{write_gpr}
 use Rattle.emulator.specs.Machine.{after_of, access_of, loaded, plan_of, decoded_plan, advanced}
 use Rattle.emulator.specs.declared.core_record.Core.{Core}
-use Rattle.emulator.proofs.Marks.{same_or_not}
+use Rattle.memory.proofs.Marks.{same_or_not}
 use Rattle.run_laws.proofs.Simulation.{AccessFits}
 use Rattle.replay_laws.specs.Replay.{CoreFits}
 

@@ -1,9 +1,10 @@
 // One recorded case: what a step or a run over 32 words starts with, and what the Rust made of it.
 ghost use Rattle.std.specs.Prelude.{◌≡◌, ◌≤◌, ◌+◌};
-ghost use Rattle.emulator.specs.Outcome.{stop_of, fault};
+ghost use Rattle.memory.specs.Outcome.{stop_of, fault};
 
-use emulator::{Answer, Core, End, Fault, Run, Stop, step_lent};
+use emulator::{Answer, Core, End, Run, step_lent};
 use instructions::{GPR, Register, SPR};
+use memory::{Fault, Stop};
 use std::array;
 
 // Bytes of a case.

@@ -1,29 +1,32 @@
 -- Two runs agree: they go side by side over the same core and marks, while their memories are alike. A word is the same in both if it was
 -- written, or if the first run's final marks say that it is read. Nothing here looks at an instruction.
-use Rattle.std.specs.Prelude.{◌≡◌, ◌≢◌, ℕ, zero, suc, ◌<◌, ltb, List, [], length, get_or, set, replicate, Result, Ok, Err}
+use Rattle.std.specs.Prelude.{◌≡◌, ◌≢◌, ℕ, zero, suc, ◌<◌, List, [], length, get_or, set, replicate, Option, Result, Ok, Err}
 use mathlib.Core.Path.{refl, sym, ap, ◌∙◌, subst}
 use mathlib.Core.Logic.{⊎_elim}
 use native.Mathlib.Omega.{arith}
 use lib.ListN.{length-set, length-replicate}
 use lib.Seq.{get_or-set_same, get_or-set_other}
-use borrow.Author.Tests.{ltb-true}
-use Rattle.instructions.proofs.Cases.{if_both}
 use Rattle.run_laws.specs.Agreement.{word_at, mark_at, AgreeLogged, equal_room, enough_room, AgreementOf, Agreement, PlainAgreement}
-use Rattle.emulator.specs.Log.{Logged, logged}
-use Rattle.emulator.specs.Memory.{Memory, lent, was_read, was_written, read_mark, write_mark, mark_read, mark_write, Accessed, read_of, write_of, Below}
-use Rattle.emulator.specs.Machine.{Plan, plan_of, Access, none, load, store, stop, advanced, memory_store, refusal_of, unmarked, Ran, ran, Setting, full_in, plain, run_from, run_in, run_of}
+use Rattle.memory.specs.Log.{Logged, logged, Room}
+use Rattle.memory.specs.Memory.{Memory, lent, was_read, was_written, read_mark, write_mark, mark_read, mark_write, read_at, write_at, read_of, write_of, Below}
+use Rattle.memory.specs.Rights.{right_of}
+use Rattle.memory.specs.Store.{memory_store}
+use Rattle.emulator.specs.Machine.{Plan, plan_of, Access, none, load, store, stop, advanced, unmarked, Ran, ran, Setting, setting, full_in, plain, unlogged, refusal_with, run_from, run_in}
 use Rattle.emulator.specs.declared.core_record.Core.{Core}
-use Rattle.emulator.specs.declared.refusal.LogEnd.TheVariants.{Full}
-use Rattle.emulator.specs.declared.stop.Stop.{Stop}
-use Rattle.emulator.proofs.Marks.{written_cases, same_or_not, read_sets, write_sets, written_read}
-use Rattle.emulator.proofs.Laws.{accepted_marked}
+use Rattle.memory.specs.declared.refusal.LogEnd.TheVariants.{Full}
+use Rattle.memory.specs.declared.log.Purpose.{Purpose}
+use Rattle.memory.specs.declared.rights.Right.{Right}
+use Rattle.memory.specs.declared.stop.Stop.{Stop}
+use Rattle.memory.proofs.Marks.{written_cases, same_or_not, read_sets, write_sets, written_read}
+use Rattle.emulator.proofs.Laws.{accepted_marked, with_accepted}
+use Rattle.memory.proofs.Places.{place_both}
 use Rattle.emulator.proofs.Whole.{accepted_run}
 use Rattle.emulator.proofs.Keeps.{Leads, kept_leads}
 use Rattle.run_laws.proofs.Simulation.{ReadFits, AccessFits, Same, Simulates, twin_run}
 use Rattle.run_laws.proofs.Logs.{logged_plain}
 
 -- a list of zeros has 0 at every place, and past its end the default is 0 too
-get_d_zeros : (n k : ℕ) → ◌≡◌ {A = ℕ} (get_or (replicate n 0) k 0) 0
+pub get_d_zeros : (n k : ℕ) → ◌≡◌ {A = ℕ} (get_or (replicate n 0) k 0) 0
 get_d_zeros zero k = refl
 get_d_zeros (suc n) zero = refl
 get_d_zeros (suc n) (suc k) = get_d_zeros n k
@@ -93,30 +96,30 @@ module _ {M N : List ℕ} where
 abbrev Seen : List ℕ → Memory → Type 0
 Seen F m = Below was_read m.marks F
 
-seen_leads : (F : List ℕ) → Leads memory_store (λ l m l' m'. Seen F m' → Seen F m)
-seen_leads F =
+seen_leads : (rights : Option (List ℕ)) (F : List ℕ) → Leads (memory_store rights) (λ l m l' m'. Seen F m' → Seen F m)
+seen_leads rights F =
     record {
       same = λ l m h. h;
       next = λ p q h. p (q h);
-      read = λ p l m a h b e. h b ((kept_leads.read p l m a).read b e);
-      write = λ l m a v h b e. h b ((kept_leads.write l m a v).read b e);
+      read = λ p l m a h b e. h b (((kept_leads rights).read p l m a).read b e);
+      write = λ l m a v h b e. h b (((kept_leads rights).write l m a v).read b e);
     }
 
 -- nothing needs to be known of a word
-abbrev Any : ℕ → Type 0
+abbrev pub Any : ℕ → Type 0
 Any w = Unit {0}
 
-any_read : (r : Result ℕ Stop) → ReadFits Any r
+pub any_read : (r : Result ℕ Stop) → ReadFits Any r
 any_read (Ok w) = tt
 any_read (Err s) = tt
 
-any_access : (x : Access) → AccessFits Any x
+pub any_access : (x : Access) → AccessFits Any x
 any_access none = tt
 any_access (load a r up) = tt
 any_access (store a v) = tt
 any_access (stop s) = tt
 
-module _ {M N : List ℕ} (F : List ℕ) (agree : (a : ℕ) → was_read (get_or F a 0) ≡ 1 → get_or M a 0 ≡ get_or N a 0) where
+module _ (rights : Option (List ℕ)) {M N : List ℕ} (F : List ℕ) (agree : (a : ℕ) → was_read (get_or F a 0) ≡ 1 → get_or M a 0 ≡ get_or N a 0) where
   -- a word that is read is the same in both
   same_word : {m m' : Memory} (a : ℕ) → a < length m.words → Alike M N m m' → Below was_read (mark_read m.marks a) F → word_at m a ≡ word_at m' a
   same_word {m} {m'} a l h below =
@@ -131,36 +134,40 @@ module _ {M N : List ℕ} (F : List ℕ) (agree : (a : ℕ) → was_read (get_or
       noted : was_written (mark_at m a) ≡ 0 → was_read (get_or (mark_read m.marks a) a 0) ≡ 1
       noted z = ap was_read (get_or-set_same m.marks a (read_mark (mark_at m a)) 0 lm) ∙ read_sets (mark_at m a) z
 
-  twin_read : (m m' : Memory) (a : ℕ) → Alike M N m m' → Seen F (read_of m a).memory → Same (read_of m a) (read_of m' a) (Alike M N)
+  twin_read : (m m' : Memory) (p : Purpose) (a : ℕ) → Alike M N m m' → Seen F (read_of rights m p a).memory → Same (read_of rights m p a) (read_of rights m' p a) (Alike M N)
   unfolding read_of
-  twin_read m m' a h below =
-      if_both (λ (x y : Accessed Memory (Result ℕ Stop)). Seen F x.memory → Same x y (Alike M N)) (ltb a (length m.words)) (ltb a (length m'.words))
-      (ap (λ (n : ℕ). ltb a n) h.sizes)
-      (λ e low. record { answer = ap Ok (sym (same_word a (ltb-true _ _ e) h low)); kept = alike_read a h })
-      (λ e low. record { answer = refl; kept = h })
+  twin_read m m' p a h below =
+      place_both rights (right_of p) a h.sizes
+      (λ (x y : Result ℕ Stop). Seen F (read_at m x).memory
+      → Same (read_at m x)
+      (read_at m' y) (Alike M N))
+      (λ l _ low. record { answer = ap Ok (sym (same_word a l h low)); kept = alike_read a h })
+      (λ s low. record { answer = refl; kept = h })
       below
 
-  twin_write : (m m' : Memory) (a v : ℕ) → Alike M N m m' → Same (write_of m a v) (write_of m' a v) (Alike M N)
+  twin_write : (m m' : Memory) (a v : ℕ) → Alike M N m m' → Same (write_of rights m a v) (write_of rights m' a v) (Alike M N)
   unfolding write_of
   twin_write m m' a v h =
-      if_both (λ (x y : Accessed Memory (Result (Unit {0}) Stop)). Same x y (Alike M N)) (ltb a (length m.words)) (ltb a (length m'.words)) (ap (λ (n : ℕ). ltb a n) h.sizes)
-      (λ e. record { answer = refl; kept = alike_write a v (ltb-true _ _ e) h })
-      (λ e. record { answer = refl; kept = h })
+      place_both rights Right.Write a h.sizes
+      (λ (x y : Result ℕ Stop). Same (write_at m v x)
+      (write_at m' v y) (Alike M N))
+      (λ l _. record { answer = refl; kept = alike_write a v l h })
+      (λ s. record { answer = refl; kept = h })
 
-  twins : (plan : Core → ℕ → Plan) → Simulates memory_store memory_store plan Any (λ c. Unit {0}) (λ l. Alike M N) (λ l. Seen F)
+  twins : (plan : Core → ℕ → Plan) → Simulates (memory_store rights) (memory_store rights) plan Any (λ c. Unit {0}) (λ l. Alike M N) (λ l. Seen F)
   twins plan =
       record {
-        read = λ p l m m' a. twin_read m m' a;
-        read_fits = λ l m m' a h. any_read (read_of m a).answer;
+        read = λ p l m m' a. twin_read m m' p a;
+        read_fits = λ p l m m' a h. any_read (read_of rights m p a).answer;
         write = λ l m m' a v _. twin_write m m' a v;
-        seen = seen_leads F;
+        seen = seen_leads rights F;
         plan_fits = λ c w _ _. tt;
         access_fits = λ c w _ _. any_access (plan (advanced c) w).access;
         load_fits = λ c r up w _ _. tt;
       }
 
 -- two runs in one setting
-module _ (plan : Core → ℕ → Plan) (given : Setting) (c : Core) (limit : ℕ) (m m' : Memory) (ok : refusal_of m ≡ 0) (ok' : refusal_of m' ≡ 0)
+module _ (plan : Core → ℕ → Plan) (given : Setting) (c : Core) (limit : ℕ) (m m' : Memory) (ok : refusal_with given.rights m ≡ 0) (ok' : refusal_with given.rights m' ≡ 0)
     (sizes : length m.words ≡ length m'.words) where
   zeros : List ℕ
   zeros = replicate (length m.marks) 0
@@ -173,10 +180,10 @@ module _ (plan : Core → ℕ → Plan) (given : Setting) (c : Core) (limit : �
   unfolding zeros
   start =
       record {
-        marks = ap (λ (n : ℕ). replicate n 0) (accepted_marked m' ok' ∙ (sym sizes ∙ sym (accepted_marked m ok)));
+        marks = ap (λ (n : ℕ). replicate n 0) (accepted_marked m' (with_accepted given.rights m' ok') ∙ (sym sizes ∙ sym (accepted_marked m (with_accepted given.rights m ok))));
         sizes = sizes;
         begun = refl;
-        marked = length-replicate (length m.marks) 0 ∙ accepted_marked m ok;
+        marked = length-replicate (length m.marks) 0 ∙ accepted_marked m (with_accepted given.rights m ok);
         written = λ a e. absurd (zero_bit a e);
         first = λ a e. refl;
         second = λ a e. refl;
@@ -206,25 +213,29 @@ module _ (plan : Core → ℕ → Plan) (given : Setting) (c : Core) (limit : �
       → AgreeLogged m m' (run_in plan given c m limit) (run_in plan given c m' limit)
   in_one_setting agree =
       rw (accepted_run plan given c m limit ok, accepted_run plan given c m' limit ok')
-      (let t = twin_run memory_store memory_store plan Any (λ d. Unit {0}) (λ l. Alike m.words m'.words) (λ l. Seen F) (twins F agree₁ plan) (full_in given) Full limit 0 c (unmarked m) (unmarked m') [] tt start (λ a e. e) in
+      (let t = twin_run (memory_store given.rights) (memory_store given.rights) plan Any (λ d. Unit {0}) (λ l. Alike m.words m'.words) (λ l. Seen F) (twins given.rights F agree₁ plan) (full_in given) Full limit 0 c (unmarked m) (unmarked m') [] tt start (λ a e. e) in
       whole t.same t.alike)
     where
       F : List ℕ
-      F = (run_from memory_store plan given limit 0 c (unmarked m) []).result.memory.marks
+      F = (run_from (memory_store given.rights) plan given limit 0 c (unmarked m) []).result.memory.marks
 
       agree₁ : (a : ℕ) → was_read (get_or F a 0) ≡ 1 → word_at m a ≡ word_at m' a
       agree₁ = rw (accepted_run plan given c m limit ok) at agree
 
+-- a setting by its parts
+same_setting : (g g' : Setting) → g'.room ≡ g.room → g'.rights ≡ g.rights → g' ≡ g
+same_setting g g' p q = ap (λ (x : Room). setting x g'.rights) p ∙ ap (λ (x : Option (List ℕ)). setting g.room x) q
+
 agreement_of : (plan : Core → ℕ → Plan) → AgreementOf plan
-agreement_of plan given given' c limit m m' ok ok' sizes (equal_room e) agree =
-    subst (λ (s : Setting). AgreeLogged m m' (run_in plan given c m limit) (run_in plan s c m' limit)) (sym e) (in_one_setting plan given c limit m m' ok ok' sizes agree)
-agreement_of plan given given' c limit m m' ok ok' sizes (enough_room r q) agree =
-    rw (logged_plain plan given c m limit r, logged_plain plan given' c m' limit q)
-    (in_one_setting plan plain c limit m m' ok ok' sizes (rw (logged_plain plan given c m limit r) at agree))
+agreement_of plan given given' c limit m m' same ok ok' sizes (equal_room e) agree =
+    subst (λ (s : Setting). AgreeLogged m m' (run_in plan given c m limit) (run_in plan s c m' limit)) (sym (same_setting given given' e same))
+    (in_one_setting plan given c limit m m' ok (rw same at ok') sizes agree)
+agreement_of plan given given' c limit m m' same ok ok' sizes (enough_room r q) agree =
+    rw (logged_plain plan given c m limit r, logged_plain plan given' c m' limit q, same)
+    (in_one_setting plan (unlogged given.rights) c limit m m' ok (rw same at ok') sizes (rw (logged_plain plan given c m limit r) at agree))
 
 pub agreement : Agreement
 agreement = agreement_of plan_of
 
 pub plain_agreement : PlainAgreement
-unfolding run_of
-plain_agreement c limit m m' ok ok' sizes agree = (agreement plain plain c limit m m' ok ok' sizes (equal_room refl) agree).runs
+plain_agreement c limit m m' ok ok' sizes agree = (agreement plain plain c limit m m' refl ok ok' sizes (equal_room refl) agree).runs

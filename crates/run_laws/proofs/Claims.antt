@@ -1,14 +1,15 @@
 -- Marks only grow and lengths never change, and a run is its steps.
-use Rattle.std.specs.Prelude.{◌≡◌, ℕ, zero, suc, ◌+◌, List, [], ◌++◌, length}
+use Rattle.std.specs.Prelude.{◌≡◌, ℕ, zero, suc, ◌+◌, List, [], ◌++◌, length, None}
 use mathlib.Core.Path.{ap, ◌∙◌}
 use lib.ListN.{length-replicate}
 use borrow.Author.Tests.{eq-eqb}
 use Rattle.emulator.specs.Core.{is_halted}
-use Rattle.emulator.specs.Log.{Logged}
-use Rattle.emulator.specs.Memory.{Memory, Kept}
-use Rattle.emulator.specs.Machine.{Plan, plan_of, memory_store, Turn, cycle_of, refusal_of, unmarked, step_of, Ran, is_stepped, next_of, full_in, plain, run_until, run_from, run_of}
+use Rattle.memory.specs.Log.{Logged}
+use Rattle.memory.specs.Memory.{Memory, Kept}
+use Rattle.memory.specs.Store.{memory_store}
+use Rattle.emulator.specs.Machine.{Plan, plan_of, Turn, cycle_of, refusal_of, unmarked, step_of, Ran, is_stepped, next_of, Setting, full_in, plain, refusal_with, run_until, run_from, run_in, run_of}
 use Rattle.emulator.specs.declared.core_record.Core.{Core}
-use Rattle.emulator.specs.declared.refusal.LogEnd.TheVariants.{Full}
+use Rattle.memory.specs.declared.refusal.LogEnd.TheVariants.{Full}
 use Rattle.instructions.proofs.Cases.{by_test}
 use Rattle.emulator.proofs.Keeps.{kept_leads, cycle_keeps, step_keeps, run_leads}
 use Rattle.emulator.proofs.Whole.{accepted_run}
@@ -16,12 +17,14 @@ use Rattle.run_laws.specs.Claims.{Keeping, after_step, steps_from, RunIsSteps}
 
 -- an accepted run without a log is its turns from marks that are all 0
 turns_of : (plan : Core → ℕ → Plan) (c : Core) (m : Memory) (limit : ℕ) → refusal_of m ≡ 0
-    → run_of plan c m limit ≡ (run_from memory_store plan plain limit 0 c (unmarked m) []).result
-unfolding run_of
+    → run_of plan c m limit ≡ (run_from (memory_store None) plan plain limit 0 c (unmarked m) []).result
 turns_of plan c m limit ok = ap (λ (r : Logged (Ran Memory)). r.result) (accepted_run plan plain c m limit ok)
 
-run_keeps : (plan : Core → ℕ → Plan) (c : Core) (m : Memory) (limit : ℕ) → refusal_of m ≡ 0 → Kept (unmarked m) (run_of plan c m limit).memory
-run_keeps plan c m limit ok = rw (turns_of plan c m limit ok) (run_leads memory_store kept_leads plan (full_in plain) Full limit 0 c (unmarked m) [])
+pub run_keeps : (plan : Core → ℕ → Plan) (given : Setting) (c : Core) (m : Memory) (limit : ℕ) → refusal_with given.rights m ≡ 0
+    → Kept (unmarked m) (run_in plan given c m limit).result.memory
+run_keeps plan given c m limit ok =
+    rw (accepted_run plan given c m limit ok)
+    (run_leads (memory_store given.rights) (kept_leads given.rights) plan (full_in given) Full limit 0 c (unmarked m) [])
 
 pub keeping : Keeping
 keeping = record { step_keeps = step_keeps plan_of; run_keeps = run_keeps plan_of }
@@ -38,16 +41,16 @@ next_is_step : (more : Core → Memory → List ℕ → Logged (Ran Memory)) (st
 next_is_step more steps n l t h = by_test (is_stepped t.result.outcome) (λ e. rw e h) (λ e. rw e)
 
 -- the turns of accepted memory are its steps, whatever is logged before
-steps_run : (k n : ℕ) (c : Core) (m : Memory) (l : List ℕ) → refusal_of m ≡ 0 → (run_from memory_store plan_of plain k n c m l).result ≡ steps_from k n c m
+steps_run : (k n : ℕ) (c : Core) (m : Memory) (l : List ℕ) → refusal_of m ≡ 0 → (run_from (memory_store None) plan_of plain k n c m l).result ≡ steps_from k n c m
 unfolding run_until steps_from step_of
 steps_run zero n c m l ok = by_test (is_halted c) (λ h. rw h) (λ h. rw h)
 steps_run (suc k) n c m l ok =
-    let t = cycle_of memory_store plan_of c m in
+    let t = cycle_of (memory_store None) plan_of c m in
     by_test (is_halted c)
     (λ h. rw (eq-eqb (refusal_of m) 0 ok, h))
     (λ h. rw (eq-eqb (refusal_of m) 0 ok, h)
-    (next_is_step (run_from memory_store plan_of plain k (n + 1)) (steps_from k (n + 1)) n l t
-    (steps_run k (n + 1) t.result.core t.result.memory (l ++ t.log) (refusal_kept (cycle_keeps plan_of c m) ∙ ok))))
+    (next_is_step (run_from (memory_store None) plan_of plain k (n + 1)) (steps_from k (n + 1)) n l t
+    (steps_run k (n + 1) t.result.core t.result.memory (l ++ t.log) (refusal_kept (cycle_keeps None plan_of c m) ∙ ok))))
 
 pub run_is_steps : RunIsSteps
 unfolding refusal_of

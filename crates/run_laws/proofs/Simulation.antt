@@ -6,14 +6,15 @@ use mathlib.Core.Path.{refl, sym, ap, subst}
 use Rattle.instructions.proofs.Cases.{if_both}
 use Rattle.instructions.specs.declared.reg.GeneralPurposeRegister.{GeneralPurposeRegister}
 use Rattle.emulator.specs.Core.{is_halted}
-use Rattle.emulator.specs.Log.{read_log, Reply, reply_log, Logged, logged}
-use Rattle.emulator.specs.Memory.{Accessed, accessed}
-use Rattle.emulator.specs.Outcome.{Outcome}
-use Rattle.emulator.specs.Machine.{Access, none, load, store, stop, Plan, loaded, settle_of, Store, read_reply, write_reply, make_of, Turn, turn, settled_turn, carry_out, after_fetch, advanced, cycle_of, Ran, ran, is_stepped, next_of, run_until}
+use Rattle.memory.specs.Log.{read_log, Reply, reply_log, Logged, logged}
+use Rattle.memory.specs.Memory.{Accessed, accessed}
+use Rattle.memory.specs.Outcome.{Outcome}
+use Rattle.memory.specs.Store.{Store}
+use Rattle.emulator.specs.Machine.{Access, none, load, store, stop, Plan, loaded, settle_of, read_reply, write_reply, make_of, Turn, turn, settled_turn, carry_out, after_fetch, advanced, cycle_of, Ran, ran, is_stepped, next_of, run_until}
 use Rattle.emulator.specs.declared.core_record.Core.{Core}
-use Rattle.emulator.specs.declared.log.Purpose.{Purpose}
-use Rattle.emulator.specs.declared.refusal.LogEnd.{LogEnd}
-use Rattle.emulator.specs.declared.stop.Stop.{Stop}
+use Rattle.memory.specs.declared.log.Purpose.{Purpose}
+use Rattle.memory.specs.declared.refusal.LogEnd.{LogEnd}
+use Rattle.memory.specs.declared.stop.Stop.{Stop}
 use Rattle.emulator.proofs.Keeps.{Leads, make_leads, on_fetch_leads, next_leads, run_leads, read_replied, write_replied}
 
 -- What is known of every word that is read or written: W.
@@ -42,9 +43,9 @@ pub record Same {S S' A : Type 0} (x : Accessed S A) (y : Accessed S' A) (alike 
 pub record Simulates {S S' : Type 0} (first : Store S) (second : Store S') (plan : Core → ℕ → Plan) (W : ℕ → Type 0) (Fits : Core → Type 0)
     (R : List ℕ → S → S' → Type 0) (Seen : List ℕ → S → Type 0) : Type 0 where
   pub read : (p : Purpose) (l : List ℕ) (m : S) (m' : S') (a : ℕ) → R l m m'
-      → Seen (l ++ read_log p a (first.read m a).answer) (first.read m a).memory
-      → Same (first.read m a) (second.read m' a) (R (l ++ read_log p a (first.read m a).answer))
-  pub read_fits : (l : List ℕ) (m : S) (m' : S') (a : ℕ) → R l m m' → ReadFits W (first.read m a).answer
+      → Seen (l ++ read_log p a (first.read m p a).answer) (first.read m p a).memory
+      → Same (first.read m p a) (second.read m' p a) (R (l ++ read_log p a (first.read m p a).answer))
+  pub read_fits : (p : Purpose) (l : List ℕ) (m : S) (m' : S') (a : ℕ) → R l m m' → ReadFits W (first.read m p a).answer
   pub write : (l : List ℕ) (m : S) (m' : S') (a v : ℕ) → W v → R l m m' → Same (first.write m a v) (second.write m' a v) (R l)
   pub seen : Leads first (λ l m l' m'. Seen l' m' → Seen l m)
   pub plan_fits : (c : Core) (w : ℕ) → Fits c → W w → Fits (plan (advanced c) w).core
@@ -83,7 +84,7 @@ module _ {S S' : Type 0} (first : Store S) (second : Store S') (plan : Core → 
   -- the words of its reply
   reply_fits : (l : List ℕ) (x : Access) (m : S) (m' : S') → R l m m' → ReplyFits W (make_of first x m).answer
   reply_fits l none m m' h = tt
-  reply_fits l (load a r up) m m' h = by_answer (first.read m a).answer (sim.read_fits l m m' a h)
+  reply_fits l (load a r up) m m' h = by_answer (first.read m Purpose.Read a).answer (sim.read_fits Purpose.Read l m m' a h)
     where
       by_answer : (x : Result ℕ Stop) → ReadFits W x → ReplyFits W (read_reply a x)
       by_answer (Ok w) fit = fit
@@ -139,13 +140,13 @@ module _ {S S' : Type 0} (first : Store S) (second : Store S') (plan : Core → 
   unfolding cycle_of
   twin_cycle l c m m' fit h seen =
       subst (λ (r : Result ℕ Stop). Twins l (after_fetch more c x) (after_fetch more' c (accessed r y.memory))) (sym s.answer)
-      (twin_fetched l c x.memory y.memory fit x.answer (sim.read_fits l m m' c.ip h) s.kept seen)
+      (twin_fetched l c x.memory y.memory fit x.answer (sim.read_fits Purpose.Fetch l m m' c.ip h) s.kept seen)
     where
       x : Accessed S (Result ℕ Stop)
-      x = first.read m c.ip
+      x = first.read m Purpose.Fetch c.ip
 
       y : Accessed S' (Result ℕ Stop)
-      y = second.read m' c.ip
+      y = second.read m' Purpose.Fetch c.ip
 
       more : ℕ → S → Logged (Turn S)
       more w = carry_out first (plan (advanced c) w)

@@ -1,16 +1,17 @@
 -- What is claimed of every step and run besides their agreement (document 01, Records and The run).
 use Rattle.std.specs.Prelude.{ℕ, zero, suc, ◌+◌, ◌≡◌, if◌then◌else◌}
 use Rattle.emulator.specs.Core.{is_halted}
-use Rattle.emulator.specs.Memory.{Memory, Kept}
-use Rattle.emulator.specs.Outcome.{halted, limit}
-use Rattle.emulator.specs.Machine.{plan_of, refusal_of, Turn, step_of, unmarked, Ran, ran, is_stepped, run_of}
+use Rattle.memory.specs.Memory.{Memory, Kept}
+use Rattle.memory.specs.Outcome.{halted, limit}
+use Rattle.emulator.specs.Machine.{plan_of, refusal_of, Turn, step_of, unmarked, Ran, ran, is_stepped, Setting, refusal_with, run_in, run_of}
 use Rattle.emulator.specs.declared.core_record.Core.{Core}
 
 -- marks only grow, their other bits keep their value, and the lengths never change
 pub record Keeping : Type 0 where
   pub step_keeps : (c : Core) (m : Memory) → Kept m (step_of plan_of c m).memory
   -- of an accepted run, which sets all marks to 0 first
-  pub run_keeps : (c : Core) (m : Memory) (limit : ℕ) → refusal_of m ≡ 0 → Kept (unmarked m) (run_of plan_of c m limit).memory
+  pub run_keeps : (given : Setting) (c : Core) (m : Memory) (limit : ℕ) → refusal_with given.rights m ≡ 0
+      → Kept (unmarked m) (run_in plan_of given c m limit).result.memory
 
 -- after a step: more if it stepped, else the end
 abbrev pub after_step : (Core → Memory → Ran Memory) → ℕ → Turn Memory → Ran Memory

@@ -1,27 +1,28 @@
 -- What is claimed of a logged run and of its log (document 02, CR 2).
-use Rattle.std.specs.Prelude.{ℕ, ◌+◌, ◌*◌, ◌≤◌, List, [], ◌++◌, ◌≡◌, length}
-use Rattle.emulator.specs.Log.{entry_of, Logged}
-use Rattle.emulator.specs.Memory.{Memory}
-use Rattle.emulator.specs.Outcome as outcome
-use Rattle.emulator.specs.Machine.{plan_of, memory_store, cycle_of, Ran, ran, Setting, plain, logging_in, run_in, run_of}
+use Rattle.std.specs.Prelude.{ℕ, ◌+◌, ◌*◌, ◌≤◌, List, [], ◌++◌, ◌≡◌, length, Option}
+use Rattle.memory.specs.Log.{entry_of, Logged}
+use Rattle.memory.specs.Memory.{Memory}
+use Rattle.memory.specs.Outcome as outcome
+use Rattle.memory.specs.Store.{memory_store}
+use Rattle.emulator.specs.Machine.{plan_of, cycle_of, Ran, ran, Setting, unlogged, logging_in, run_in}
 use Rattle.emulator.specs.declared.core_record.Core.{Core}
-use Rattle.emulator.specs.declared.log.Purpose.{Purpose}
+use Rattle.memory.specs.declared.log.Purpose.{Purpose}
 use Rattle.run_laws.specs.Agreement.{HasRoom}
 
--- a logged run that doesn't end by 30 is the plain run, in everything
+-- a logged run that doesn't end by 30 is the run without a log with the same rights, in everything
 abbrev pub LoggedIsPlain : Type 0
 LoggedIsPlain =
     (given : Setting) (c : Core) (m : Memory) (limit : ℕ) → HasRoom (run_in plan_of given c m limit)
-    → run_in plan_of given c m limit ≡ run_in plan_of plain c m limit
+    → run_in plan_of given c m limit ≡ run_in plan_of (unlogged given.rights) c m limit
 
--- one that ends by 30 is the plain run with the limit set to its steps, but for the end
+-- one that ends by 30 is the run without a log with the limit set to its steps, but for the end
 abbrev pub cut_at : Logged (Ran Memory) → Ran Memory
 cut_at r = ran outcome.limit r.result.steps r.result.core r.result.memory
 
 abbrev pub FullIsPlain : Type 0
 FullIsPlain =
     (given : Setting) (c : Core) (m : Memory) (limit : ℕ) → (run_in plan_of given c m limit).result.end ≡ outcome.ended 30
-    → run_of plan_of c m (run_in plan_of given c m limit).result.steps ≡ cut_at (run_in plan_of given c m limit)
+    → (run_in plan_of (unlogged given.rights) c m (run_in plan_of given c m limit).result.steps).result ≡ cut_at (run_in plan_of given c m limit)
 
 -- the log of n reads
 pub data Reads : ℕ → List ℕ → Type 0 where
@@ -38,7 +39,8 @@ pub record AtMost (most : ℕ) (l : List ℕ) : Type 0 where
 -- buffer that is lent for it.
 pub record LogSize : Type 0 where
   pub two_words : {n : ℕ} {l : List ℕ} → Reads n l → length l ≡ 2 * n
-  pub two_reads : (c : Core) (m : Memory) → AtMost 2 (cycle_of memory_store plan_of c m).log
+  pub two_reads : (rights : Option (List ℕ)) (c : Core) (m : Memory) → AtMost 2 (cycle_of (memory_store rights) plan_of c m).log
   pub run_reads : (given : Setting) (c : Core) (m : Memory) (limit : ℕ)
       → AtMost (2 * (run_in plan_of given c m limit).result.steps + 1) (run_in plan_of given c m limit).log
-  pub in_buffer : (c : Core) (m : Memory) (limit : ℕ) (buffer : List ℕ) → length (run_in plan_of (logging_in buffer) c m limit).log ≤ length buffer
+  pub in_buffer : (c : Core) (m : Memory) (limit : ℕ) (buffer : List ℕ) (rights : Option (List ℕ))
+      → length (run_in plan_of (logging_in buffer rights) c m limit).log ≤ length buffer

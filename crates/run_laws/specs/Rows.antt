@@ -9,8 +9,8 @@ use Rattle.instructions.specs.declared.ins.Instruction.TheVariants.{Mov, DMov, S
 use Rattle.instructions.specs.declared.ins.Instruction.{Instruction}
 use Rattle.instructions.specs.declared.ins.encoding.Undecodable.{Undecodable}
 use Rattle.emulator.specs.Core.{core_of, new_core}
-use Rattle.emulator.specs.Memory.{Memory, lent}
-use Rattle.emulator.specs.Outcome.{Outcome, stepped, halted, limit, fault}
+use Rattle.memory.specs.Memory.{Memory, lent}
+use Rattle.memory.specs.Outcome.{Outcome, stepped, halted, limit, fault}
 use Rattle.emulator.specs.Machine.{plan_of, Turn, step_of, Ran, run_of}
 use Rattle.emulator.specs.declared.core_record.Core.{Core}
 

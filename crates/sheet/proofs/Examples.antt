@@ -3,7 +3,7 @@ use Prim.Native.Nat.{ℕ}
 use mathlib.Core.List.{List, [], ◌∷◌, map}
 use mathlib.Core.Path.{◌≡◌, refl}
 use Rattle.emulator.specs.Core.{new_core}
-use Rattle.emulator.specs.Memory.{refused_length}
+use Rattle.memory.specs.Memory.{refused_length}
 use Rattle.std.specs.Prelude.{Result, Ok, Err}
 use Rattle.sheet.specs.declared.refusal.SheetRefusal.{SheetRefusal}
 use Rattle.sheet.specs.declared.refusal.SheetRefusal.TheVariants.{UnknownKind, NonzeroBit, UnknownRegister, PastMemory, NoEnd, AfterEnd, WrongCount}

@@ -12,7 +12,7 @@ use Rattle.std.specs.Prelude.{Ok}
 use Rattle.std.specs.Simd.{first_chunks}
 use Rattle.sheet.specs.Write.{wrote, in_front}
 use Rattle.sheet.specs.Input.{records_of}
-use Rattle.emulator.proofs.Stores.{sets_front, four}
+use Rattle.memory.proofs.Stores.{sets_front, four}
 
 -- a chunk of four bytes, and the record that it is
 chunk_at : (n i : ℕ) (bytes : List ℕ) → i < n → get_or (first_chunks 4 n bytes) i [] ≡ take 4 (drop (i * 4) bytes)

@@ -20,7 +20,7 @@ use Rattle.sheet.specs.Record.{kind, above16, above20, register, low, count, rec
 use Rattle.sheet.specs.Load.{Reading, read_from}
 use Rattle.sheet.specs.Write.{place_record, word_record, preset_record, end_record, presets_from, records_at, stretches_from, words_in}
 use Rattle.sheet.specs.RoundTrip.{Words, WholeCore}
-use Rattle.emulator.proofs.Stores.{four}
+use Rattle.memory.proofs.Stores.{four}
 use Rattle.sheet.proofs.WriteLaws.{at_zero, at_first, at_within}
 
 -- each record has the kind and the fields that it was made of

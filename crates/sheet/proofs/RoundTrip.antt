@@ -9,7 +9,7 @@ use Rattle.std.proofs.lemmas.List.Sums.{count_by-le-length}
 use Rattle.std.specs.Prelude.{not, eqb}
 use Rattle.emulator.specs.declared.core_record.Core.{Core}
 use Rattle.emulator.specs.Core.{new_core}
-use Rattle.emulator.proofs.Laws.{length_accepted}
+use Rattle.memory.proofs.Laws.{length_accepted}
 use Rattle.sheet.specs.Load.{Reading, read_from, sheet_reads, load_sheet_of}
 use Rattle.sheet.specs.Write.{end_record, presets_from, stretches_from, words_in, sheet_of}
 use Rattle.sheet.specs.RoundTrip.{Words, WholeCore, RoundTrip}

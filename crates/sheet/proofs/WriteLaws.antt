@@ -16,7 +16,7 @@ use Rattle.emulator.specs.declared.core_record.Core.{Core}
 use Rattle.std.proofs.lemmas.List.Sums.{count_by-le-length}
 use Rattle.sheet.specs.Record.{register_of}
 use Rattle.sheet.specs.Write.{place_record, word_record, preset_record, end_record, presets_from, records_at, stretches_from, words_in, sheet_of}
-use Rattle.emulator.proofs.Stores.{sets_append, sets_front}
+use Rattle.memory.proofs.Stores.{sets_append, sets_front}
 
 -- the records of one word
 module _ (a b v : ℕ) where

@@ -2,8 +2,8 @@
 use Rattle.std.specs.Prelude.{ℕ, Result, Ok, Err, ◌+◌, ◌-◌, List, [], ◌∷◌, ◌++◌, length, set, replicate, ltb, eqb, if◌then◌else◌}
 use Rattle.emulator.specs.declared.core_record.Core.{Core}
 use Rattle.emulator.specs.Core.{new_core}
-use Rattle.emulator.specs.Memory.{refused_length}
-use Rattle.emulator.specs.declared.refusal.Refusal.TheVariants.{MemoryLength}
+use Rattle.memory.specs.Memory.{refused_length}
+use Rattle.memory.specs.declared.refusal.Refusal.TheVariants.{MemoryLength}
 use Rattle.sheet.specs.declared.refusal.SheetRefusal.{SheetRefusal}
 use Rattle.sheet.specs.declared.refusal.SheetRefusal.TheVariants.{Host, LongList, PastMemory, NoEnd, AfterEnd, WrongCount}
 use Rattle.sheet.specs.declared.fields.Record.{Record}

@@ -1,6 +1,6 @@
 -- Why a load, a write or an input is refused (document 01, Stops).
 use Rattle.std.specs.Prelude.{ℕ}
-use Rattle.emulator.specs.Outcome.{refusal_number}
+use Rattle.memory.specs.Outcome.{refusal_number}
 use Rattle.sheet.specs.declared.refusal.SheetRefusal.{SheetRefusal}
 use Rattle.sheet.specs.declared.refusal.SheetRefusal.TheVariants.{Host, LongList, ShortBuffer, UnknownKind, NonzeroBit, UnknownRegister, PastMemory, NoEnd, AfterEnd, WrongCount, Input}
 

@@ -1,8 +1,8 @@
 -- Writing a rule sheet (document 01, The rule sheet; Stops).
 use Rattle.std.specs.Prelude.{ℕ, Result, Ok, Err, zero, suc, ◌+◌, ◌*◌, ◌^◌, List, [], ◌∷◌, ◌++◌, length, drop, count_by, not, ltb, eqb, if◌then◌else◌}
 use Rattle.emulator.specs.declared.core_record.Core.{Core}
-use Rattle.emulator.specs.Memory.{refused_length}
-use Rattle.emulator.specs.declared.refusal.Refusal.TheVariants.{MemoryLength}
+use Rattle.memory.specs.Memory.{refused_length}
+use Rattle.memory.specs.declared.refusal.Refusal.TheVariants.{MemoryLength}
 use Rattle.sheet.specs.declared.refusal.SheetRefusal.{SheetRefusal}
 use Rattle.sheet.specs.declared.refusal.SheetRefusal.TheVariants.{Host, ShortBuffer}
 use Rattle.sheet.specs.Record.{register_of}

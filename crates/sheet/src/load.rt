@@ -5,7 +5,8 @@ ghost use Rattle.sheet.specs.Load.{left, load_words_of, Reading, sheet_reads, te
 
 use crate::fields::{Record, record_of, with_register};
 use crate::refusal::SheetRefusal;
-use emulator::{Core, check_length};
+use emulator::Core;
+use memory::check_length;
 
 // What a load comes to. A refused one hands back a fresh core.
 #[derive(Clone, Copy)]

@@ -3,7 +3,7 @@ ghost use Rattle.std.specs.Prelude.{◌≡◌};
 ghost use Rattle.sheet.specs.Refusal.{sheet_refusal_number};
 ghost use Rattle.sheet.specs.declared.refusal.SheetRefusal.TheVariants.{Host};
 
-use emulator::Refusal;
+use memory::Refusal;
 
 // The test that refuses, by the documents' number.
 #[derive(Clone, Copy, Debug, PartialEq, Eq)]

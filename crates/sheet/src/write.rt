@@ -6,7 +6,8 @@ ghost use Rattle.sheet.specs.Write.{wrote, preset_record, presets_from, records_
 
 use crate::fields::register;
 use crate::refusal::SheetRefusal;
-use emulator::{Core, check_length};
+use emulator::Core;
+use memory::check_length;
 
 // How many records a word takes after the word before it.
 #[tactic(auto, using(crate::proofs::WriteLaws::one_word))]
@@ -100,7 +101,7 @@ fn put_stretches(memory: &[u16], sheet: &mut [u32])
 }
 
 // Writes the sheet that loads this core and memory. A refused write changes nothing.
-#[tactic(auto, using(crate::proofs::WriteLaws::sheet_laws), unfolding(crate::specs::Write::write_sheet_of, emulator::specs::Memory::refused_length))]
+#[tactic(auto, using(crate::proofs::WriteLaws::sheet_laws), unfolding(crate::specs::Write::write_sheet_of, memory::specs::Memory::refused_length))]
 pub fn write_sheet(core: Core, memory: &[u16], sheet: &mut [u32]) -> Result<usize, SheetRefusal>
     ensures { wrote result sheet.new ≡ write_sheet_of core memory.now sheet.old }
 {

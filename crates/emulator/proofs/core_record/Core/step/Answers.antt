@@ -6,4 +6,4 @@ pub returns-in-Err : goal.returns-in-Err
 returns-in-Err c = step_refused _ _ _ _ c.in-Err.ensures
 
 pub returns : goal.returns
-returns c = step_answered _ _ _ _ _ c.in_default.ensures c.plain_turns-run.ensures c.answered.ensures
+returns c = step_answered _ _ _ _ _ c.in_default.ensures c.marked_turns-run.ensures c.answered.ensures

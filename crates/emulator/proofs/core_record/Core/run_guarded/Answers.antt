@@ -1,0 +1,12 @@
+-- `Core::run_guarded`: the host tests, and the turns from marks that are all 0.
+use Rattle.std.specs.Prelude.{Some}
+use Rattle.emulator.proofs.Whole.{run_refused, run_accepted}
+use Rattle.emulator.proofs.core_record.Core.run_guarded.Goals as goal
+
+pub returns-in-Err : goal.returns-in-Err
+returns-in-Err c = rw c.no_run.ensures (run_refused (Some c.args.rights.now) _ _ _ _ _ c.in-Err.ensures.number)
+
+pub returns : goal.returns
+returns c =
+    run_accepted (Some c.args.rights.now) _ _ _ _ c.in-Ok.ensures.number (c.fill.ensures.after (λ y e. e))
+    (rw c.in-Ok.ensures.bytes at c.marked_turns.ensures)

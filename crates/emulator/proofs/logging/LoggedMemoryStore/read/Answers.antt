@@ -1,6 +1,0 @@
--- A read is logged.
-use Rattle.emulator.proofs.Logs.{logs_pushed}
-use Rattle.emulator.proofs.logging.LoggedMemoryStore.read.Goals as goal
-
-pub returns-clause-noted : goal.returns-clause-noted
-returns-clause-noted c start l h = (h.0, h.1, h.2, logs_pushed h.3 _ _ _ c.push-self.ensures)

@@ -1,0 +1,35 @@
+// The log of a run's reads: two words for each.
+ghost use Rattle.std.specs.Prelude.{◌≡◌, ◌≤◌, length};
+ghost use Rattle.memory.specs.Log.{address_word, written};
+ghost use Rattle.memory.specs.Parts.{pushed};
+
+// What a read is made for. (It goes beside the address, as a write has an address alone.)
+#[derive(Clone, Copy, Debug, PartialEq, Eq)]
+pub enum Purpose {
+    Fetch,
+    Read,
+}
+
+// The log word that names a read's address.
+pub fn address_word(purpose: Purpose, address: u16) -> u32
+    ensures { result ≡ address_word purpose address }
+{
+    match purpose {
+        Purpose::Fetch => 0x40010000 + address as u32,
+        Purpose::Read => 0x40000000 + address as u32,
+    }
+}
+
+// Logs a read in a buffer that has so many log words, and answers how many it has then. A run tests first that there is room. (Hosts lend the buffer,
+// so it is no `Vec`.)
+pub fn push(buffer: &mut [u32], count: usize, purpose: Purpose, address: u16, word: u16) -> usize
+    requires { count ≤ length buffer.old }
+    ensures { written result buffer.new ≡ pushed purpose address word (written count buffer.old) }
+{
+    if buffer.len() - count < 2 {
+        return count;
+    }
+    buffer[count] = address_word(purpose, address);
+    buffer[count + 1] = 0x50000000 + word as u32;
+    count + 2
+}

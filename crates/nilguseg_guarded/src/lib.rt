@@ -1,0 +1,25 @@
+// What C and Rust hosts call to run with rights. It stands in a library of its own: in one with the plain run, the two would share a loop, and the
+// plain run would test at each access whether there are rights.
+#![tactic(auto)]
+
+ghost use Rattle.std.specs.Prelude.{[], ◌∷◌, ◌≡◌};
+ghost use Rattle.memory.specs.Memory.{lent};
+ghost use Rattle.emulator.specs.Machine.{plan_of, run_guarded_of};
+ghost use Rattle.nilguseg.specs.Host.{core_from, call, run_call};
+
+use nilguseg::{core_of, put_run};
+
+// A run of the core, of at most `limit` steps, with rights over memory's pages: a byte for each.
+#[unsafe(no_mangle)]
+pub extern "C" fn nilguseg_run_guarded(
+    core: &mut [u16; 12],
+    memory: &mut [u16],
+    marks: &mut [u8],
+    rights: &[u8],
+    limit: u32,
+) -> u64
+    ensures { call result (core.new ∷ memory.new ∷ marks.new ∷ []) ≡ run_call (run_guarded_of plan_of (core_from core.old) (lent memory.old marks.old) rights.now limit) }
+{
+    let run = core_of(*core).run_guarded(memory, marks, rights, limit);
+    put_run(run, core)
+}
