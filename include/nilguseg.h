@@ -1,7 +1,9 @@
 /* Nilguseg: the Delta Null interpreter, for C hosts. Link with libnilguseg.a and, for decode and encode, libnilguseg_words.a,
- * for the logged run, libnilguseg_log.a, for the replay, libnilguseg_replay.a.
+ * for the logged runs, libnilguseg_log.a, for the replays, libnilguseg_replay.a, and for nilguseg_run_guarded,
+ * libnilguseg_guarded.a.
  *
- * The numbers of faults and refusals are those of document 01; the order of word lists and the log are those of document 02.
+ * The numbers of faults and refusals are those of document 01; the order of word lists, the log and the rights over memory,
+ * with the numbers from 30 on, are those of document 02.
  *
  * Required of every call: each pointer is valid for its length (one core or one number, else as many elements as
  * the length beside it says), and what is lent for writing overlaps nothing else that is lent.
@@ -35,8 +37,17 @@ enum {
     NILGUSEG_HALTED = 1,  /* the core was halted already, or the run halted it */
     NILGUSEG_LIMIT = 2,   /* of a run: its limit of steps was reached */
     NILGUSEG_FAULT = 3,   /* the words caused a stop */
-    NILGUSEG_REFUSED = 4, /* the lengths do not fit; nothing was changed */
+    NILGUSEG_REFUSED = 4, /* the lengths or the rights do not fit; nothing was changed */
     NILGUSEG_LOG = 5      /* of a logged run or a replay: the log ended it */
+};
+
+/* The rights over memory that a run may be given: NILGUSEG_PAGES bytes, one for each page of 256 addresses, the sum of what is
+ * allowed there. The page of an address is address / 256. */
+enum {
+    NILGUSEG_MAY_READ = 1,
+    NILGUSEG_MAY_WRITE = 2,
+    NILGUSEG_MAY_EXECUTE = 4,
+    NILGUSEG_PAGES = 256
 };
 
 /* The kinds of instruction, each with its operands: first, second. */
@@ -124,6 +135,15 @@ uint32_t nilguseg_step(nilguseg_core *core, uint16_t *memory, size_t memory_len,
 uint64_t nilguseg_run(nilguseg_core *core, uint16_t *memory, size_t memory_len, uint8_t *marks, size_t marks_len,
                       uint32_t limit);
 
+/* nilguseg_run with rights: a fetch needs NILGUSEG_MAY_EXECUTE, every other read NILGUSEG_MAY_READ, a write
+ * NILGUSEG_MAY_WRITE. One more fault, tested after 11:
+ *   33  the right is absent on the address's page [address]; at a fetch ip stays, at a push sp stays lowered
+ * Such an access leaves no mark. Refused too, with core, memory and marks unchanged:
+ *   32  rights_len is not 256, or a byte of the rights is above 7; tested after 2
+ * With 256 bytes of 7 it is nilguseg_run. */
+uint64_t nilguseg_run_guarded(nilguseg_core *core, uint16_t *memory, size_t memory_len, uint8_t *marks, size_t marks_len,
+                              const uint8_t *rights, size_t rights_len, uint32_t limit);
+
 /* nilguseg_run with a log: two words for each read, in order. Their other bits are 0.
  *   bits 31..28  4, bit 16 set for a fetch, bits 15..0 the address
  *   bits 31..28  5, bits 15..0 the word
@@ -137,6 +157,11 @@ uint64_t nilguseg_run(nilguseg_core *core, uint16_t *memory, size_t memory_len, 
 uint64_t nilguseg_run_logged(nilguseg_core *core, uint16_t *memory, size_t memory_len, uint8_t *marks, size_t marks_len,
                              uint32_t limit, uint32_t *log, size_t log_len, size_t *logged);
 
+/* nilguseg_run_logged with rights, as nilguseg_run_guarded has them. A read whose right is absent is not logged. */
+uint64_t nilguseg_run_logged_guarded(nilguseg_core *core, uint16_t *memory, size_t memory_len, uint8_t *marks,
+                                     size_t marks_len, const uint8_t *rights, size_t rights_len, uint32_t limit,
+                                     uint32_t *log, size_t log_len, size_t *logged);
+
 /* Sees a logged run again, without its memory: takes the core that it started with, its memory_len as size, its limit and
  * the words of its log. If the run was not refused and did not end by 30, answers as it did, and the core becomes the one
  * that it left. The word of a read is taken as logged. Other answers, with 0 steps and the core unchanged:
@@ -144,6 +169,11 @@ uint64_t nilguseg_run_logged(nilguseg_core *core, uint16_t *memory, size_t memor
  *   bits 55..48  with _LOG 31: the next two log words are not the read that is made, the log is over too soon, or words are
  *                left over; with _REFUSED 1: size is not 1 to 65,536 */
 uint64_t nilguseg_replay(nilguseg_core *core, size_t size, uint32_t limit, const uint32_t *log, size_t log_len);
+
+/* nilguseg_replay of a run with rights, which must be those of the run. Refused too, with the core unchanged:
+ *   32  as nilguseg_run_guarded; tested after 1 */
+uint64_t nilguseg_replay_guarded(nilguseg_core *core, size_t size, const uint8_t *rights, size_t rights_len, uint32_t limit,
+                                 const uint32_t *log, size_t log_len);
 
 /* Zeroes memory, copies the words to its beginning and makes the core a fresh one. The answer is 0.
  * Refused, with memory unchanged and the core fresh; the answer is the number:

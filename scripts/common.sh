@@ -1,6 +1,6 @@
 # Sourced by the scripts beside it: settings, and what to do where something is missing.
 #
-# NILGUSEG_LIB        a folder with the library's parts, libnilguseg.a and the three others; by default target/staticlib, built by
+# NILGUSEG_LIB        a folder with the library's parts, libnilguseg.a and the four others; by default target/staticlib, built by
 #                     scripts/staticlib
 # DELTA_NULL_SOURCES  a folder with the published Rust; by default ../shared/docs
 
@@ -24,7 +24,7 @@ need_cc() {
     have cc || skip_all "all, for there is no cc on the path, by which cargo links too"
 }
 
-parts="nilguseg nilguseg_words nilguseg_log nilguseg_replay"
+parts="nilguseg nilguseg_words nilguseg_log nilguseg_replay nilguseg_guarded"
 
 # Builds the library's parts unless a folder with them was given.
 need_library() {

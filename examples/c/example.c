@@ -1,5 +1,5 @@
 /* The worked example of document 01: putl r0 3, hlt; once from a word list, once from a rule sheet. Then its run logged and seen
- * again, and word lists compared. Ends with status 1 if anything is not as the documents say. */
+ * again, a rule that may not read the fees, and word lists compared. Ends with status 1 if anything is not as the documents say. */
 #include <stdbool.h>
 #include <stddef.h>
 #include <stdio.h>
@@ -149,6 +149,57 @@ static void logged_and_replayed(void)
            "a loop has no room after 3 steps: 5, 30");
 }
 
+/* A rule on page 0 that reads the fee on page 1 into r1: puth r0 1, read r1 r0, hlt. */
+enum { WORDS = 0x0200, FEE = 0x0100, STEPS = 9 };
+static uint16_t rule[WORDS] = {0x1801, 0x2001, 0xFFFF, [FEE] = 250};
+static uint8_t rule_marks[WORDS];
+
+static uint64_t run_rule(nilguseg_core *core, const uint8_t *rights, size_t rights_len)
+{
+    *core = (nilguseg_core){.sp = 0xFFFF};
+    return nilguseg_run_guarded(core, rule, WORDS, rule_marks, WORDS, rights, rights_len, STEPS);
+}
+
+static void guarded(void)
+{
+    uint8_t rights[NILGUSEG_PAGES + 1] = {NILGUSEG_MAY_EXECUTE};
+    nilguseg_core core;
+
+    puts("-- rights over memory pages");
+    expect(run_rule(&core, rights, NILGUSEG_PAGES) == 0x0321010000000001, "the fee may not be read: 3, 33, its address");
+    expect(core.ip == 2 && core.r[1] == 0, "the rule ends after 1 step, without the fee");
+    expect(rule_marks[1] == 1 && rule_marks[FEE] == 0, "the fee was not read");
+
+    rights[1] = NILGUSEG_MAY_READ;
+    expect(run_rule(&core, rights, NILGUSEG_PAGES) == ((uint64_t)NILGUSEG_HALTED << 56 | 3), "with the right it halts");
+    expect(core.r[1] == rule[FEE] && rule_marks[FEE] == 1, "and has read the fee");
+
+    expect(run_rule(&core, rights, NILGUSEG_PAGES + 1) == 0x0420000000000000, "257 rights are refused: 4, 32");
+    rights[255] = 8;
+    expect(run_rule(&core, rights, NILGUSEG_PAGES) == 0x0420000000000000, "and so is a byte above 7");
+    expect(core.ip == 0 && rule_marks[FEE] == 1, "core and marks are unchanged");
+}
+
+static void guarded_and_replayed(void)
+{
+    uint8_t rights[NILGUSEG_PAGES] = {NILGUSEG_MAY_EXECUTE};
+    nilguseg_core fresh = {.sp = 0xFFFF}, core = fresh, seen = fresh;
+    uint32_t log[8];
+    size_t logged = 99;
+
+    puts("-- and the replay with them");
+    uint64_t answer = nilguseg_run_logged_guarded(&core, rule, WORDS, rule_marks, WORDS, rights, NILGUSEG_PAGES, STEPS, log,
+                                                  8, &logged);
+    expect(answer == 0x0321010000000001 && logged == 4, "the run ends as without a log, and two fetches are logged");
+    expect(nilguseg_replay_guarded(&seen, WORDS, rights, NILGUSEG_PAGES, STEPS, log, logged) == answer &&
+               same_core(&seen, &core),
+           "the replay is the same");
+    seen = fresh;
+    rights[1] = NILGUSEG_MAY_READ;
+    expect(nilguseg_replay_guarded(&seen, WORDS, rights, NILGUSEG_PAGES, STEPS, log, logged) == 0x051F000000000000,
+           "with other rights it reads on, and the log is over: 5, 31");
+}
+
 /* The lists 3 1, 3 1 0 and 3 0 7 9: the last comes first, and the others are equal. */
 static void compared(void)
 {
@@ -172,6 +223,8 @@ int main(void)
     from_sheet();
     by_number();
     logged_and_replayed();
+    guarded();
+    guarded_and_replayed();
     compared();
     return all_as_expected ? 0 : 1;
 }

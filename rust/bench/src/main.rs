@@ -18,12 +18,15 @@ const ROUNDS: usize = 15;
 const LIST_ROUNDS: usize = 2000;
 
 /// What is measured beside berth: its name, the cargo profile it is built in, and the machine.
-const MACHINES: [(&str, &str, &str); 5] = [
+const MACHINES: [(&str, &str, &str); 8] = [
     ("published Rust, overflow checks off", "unchecked", "published"),
     ("published Rust, overflow checks on", "release", "published"),
     ("library", "release", "library"),
+    ("library, guarded", "release", "guarded"),
     ("library, logged", "release", "logged"),
+    ("library, logged, guarded", "release", "logged-guarded"),
     ("library, replay", "release", "replay"),
+    ("library, replay, guarded", "release", "replay-guarded"),
 ];
 
 /// The least and the median of the rounds.
@@ -124,7 +127,7 @@ fn print_table(table: &[Program], rows: &[(&str, Vec<Times>)], first: usize) {
 
 /// A row of the table: a name and its columns.
 fn print_row(name: &str, columns: impl IntoIterator<Item = impl Display>) {
-    print!("{name:<46}");
+    print!("{name:<56}");
     for column in columns {
         print!(" {column:>12}");
     }

@@ -2,7 +2,7 @@
 
 use crate::machine::{Machine, Model};
 use crate::report::Report;
-use nilguseg::{Core, LoggedRun, Run};
+use nilguseg::{Core, LoggedRun, Outcome, Run};
 
 /// What may be lent to a call. The records are a sheet's or a log's.
 #[derive(Debug, Clone, PartialEq)]
@@ -10,6 +10,7 @@ pub struct Lent {
     pub core: Core,
     pub memory: Vec<u16>,
     pub marks: Vec<u8>,
+    pub rights: Option<Vec<u8>>,
     pub records: Vec<u32>,
 }
 
@@ -21,21 +22,23 @@ pub struct Called<A> {
 }
 
 pub fn lent(core: Core, memory: Vec<u16>, marks: usize, records: Vec<u32>) -> Lent {
-    Lent { core, memory, marks: vec![0xA4; marks], records }
+    Lent { core, memory, marks: vec![0xA4; marks], rights: None, records }
 }
 
 pub fn run(limit: u32) -> impl Fn(&dyn Machine, &mut Lent) -> Run {
-    move |machine, lent| machine.run(&mut lent.core, &mut lent.memory, &mut lent.marks, limit)
+    move |machine, Lent { core, memory, marks, rights, .. }| machine.run(core, memory, marks, rights.as_deref(), limit)
 }
 
 /// A run with the records as the room for its log.
 pub fn run_logged(limit: u32) -> impl Fn(&dyn Machine, &mut Lent) -> LoggedRun {
-    move |machine, Lent { core, memory, marks, records }| machine.run_logged(core, memory, marks, limit, records)
+    move |machine, Lent { core, memory, marks, rights, records }| {
+        machine.run_logged(core, memory, marks, rights.as_deref(), limit, records)
+    }
 }
 
 /// A replay of the records.
 pub fn replay(size: usize, limit: u32) -> impl Fn(&dyn Machine, &mut Lent) -> Run {
-    move |machine, lent| machine.replay(&mut lent.core, size, limit, &lent.records)
+    move |machine, lent| machine.replay(&mut lent.core, size, lent.rights.as_deref(), limit, &lent.records)
 }
 
 /// Calls the machine and compares with what is expected.
@@ -53,16 +56,47 @@ pub fn expect<A: PartialEq + std::fmt::Debug>(
     }
 }
 
+/// A logged run; the run without a log, as far as there was room; and the replay, for which memory is dropped.
+pub fn expect_runs(
+    machine: &dyn Machine,
+    what: [&str; 3],
+    given: &Lent,
+    limit: u32,
+    expected: &Called<LoggedRun>,
+    report: &mut Report,
+) {
+    expect(machine, what[0], given, run_logged(limit), expected, report);
+    let Called { answer: LoggedRun { end, steps, logged }, ref left } = *expected;
+    let (end, limit) = if end == Outcome::Log(30) { (Outcome::Limit, steps) } else { (end, limit) };
+    let plain = Called { answer: Run { end, steps }, left: Lent { records: given.records.clone(), ..left.clone() } };
+    expect(machine, what[1], given, run(limit), &plain, report);
+    let log = log_of(given, left.records[..logged].to_vec());
+    let replayed = Called { answer: Run { end, steps }, left: Lent { core: left.core, ..log.clone() } };
+    expect(machine, what[2], &log, replay(given.memory.len(), limit), &replayed, report);
+}
+
+/// What a replay of a log is lent: the core and the rights of its run, and no memory.
+pub fn log_of(given: &Lent, log: Vec<u32>) -> Lent {
+    Lent { rights: given.rights.clone(), ..lent(given.core, vec![], 0, log) }
+}
+
 fn details<A: std::fmt::Debug>(lent: &Lent, given: &Called<A>, expected: &Called<A>) -> String {
     let (words, records) = (lent.memory.len(), lent.records.len());
-    if words.max(records) < 20 {
+    if words.max(records) < 20 && lent.rights.is_none() {
         return format!("from {lent:x?}\n  gives {given:x?}\n  expected {expected:x?}");
     }
     let other = (0..records).find(|&at| given.left.records[at] != expected.left.records[at]);
     format!(
-        "memory of {words} words, {records} records of which the first to differ is {other:?}, from {:?}\n  answered {:?} {:?}\n  expected {:?} {:?}",
-        lent.core, given.answer, given.left.core, expected.answer, expected.left.core
+        "memory of {words} words, {records} records of which the first to differ is {other:?}, {}from {:?}\n  answered {:?} {:?}\n  expected {:?} {:?}",
+        told(&lent.rights), lent.core, given.answer, given.left.core, expected.answer, expected.left.core
     )
+}
+
+/// Rights in short: how many bytes, and the first of them that do not allow everything, with their pages.
+fn told(rights: &Option<Vec<u8>>) -> String {
+    let Some(rights) = rights else { return String::new() };
+    let less: Vec<(usize, u8)> = rights.iter().copied().enumerate().filter(|(_, byte)| *byte != 7).take(8).collect();
+    format!("{} rights, not 7 at {less:?}, ", rights.len())
 }
 
 /// Calls the machine and the model with equal arguments and compares. Returns what the model does.

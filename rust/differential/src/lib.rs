@@ -12,6 +12,7 @@ pub mod programs;
 pub mod random;
 pub mod reference;
 pub mod report;
+mod rights;
 mod runs;
 mod sheets;
 pub mod states;
@@ -40,6 +41,10 @@ pub struct Effort {
     pub lists: usize,
     /// Programs run with a log.
     pub logs: usize,
+    /// Programs run with rights.
+    pub rights: usize,
+    /// Of the accesses at borders of pages, one in so many is taken.
+    pub borders: usize,
 }
 
 pub const FULL: Effort = Effort {
@@ -51,6 +56,8 @@ pub const FULL: Effort = Effort {
     sheets: 400_000,
     lists: 1_000_000,
     logs: 20_000,
+    rights: 60_000,
+    borders: 1,
 };
 
 pub const SHORT: Effort = Effort {
@@ -62,6 +69,8 @@ pub const SHORT: Effort = Effort {
     sheets: 40_000,
     lists: 100_000,
     logs: 1_000,
+    rights: 2_000,
+    borders: 8,
 };
 
 /// Enough to find a wrong machine.
@@ -74,16 +83,19 @@ pub const CONTROL: Effort = Effort {
     sheets: 10_000,
     lists: 10_000,
     logs: 300,
+    rights: 60,
+    borders: 32,
 };
 
 type Part = fn(&dyn Machine, &Effort, &mut Report);
 
-/// The two that take longest stand last: most wrong machines are found before them.
-const PARTS: [Part; 12] = [
+/// The two that take longest stand last: most wrong machines are found before them, and a third of them by the rights.
+const PARTS: [Part; 13] = [
     |machine, _, report| words::decode(machine, report),
     |machine, _, report| steps::every_edge(machine, report),
     |machine, effort, report| steps::every_value(machine, effort.stride, report),
     |machine, effort, report| runs::measured(machine, effort.measured, report),
+    |machine, effort, report| rights::rights(machine, effort.rights, effort.measured, effort.borders, report),
     |machine, effort, report| runs::limits(machine, effort.runs, report),
     |machine, effort, report| runs::lockstep(machine, effort.lockstep, report),
     |machine, _, report| sheets::refusals(machine, report),

@@ -1,7 +1,7 @@
 //! Logs of reads (document 02): a logged run's against the reads that the published Rust makes, its replay against the
 //! run; and against the model what there is no Rust for: changed logs, and too little room.
 
-use crate::calls::{called, compare, expect, lent, replay, run, run_logged, Called, Lent};
+use crate::calls::{called, compare, expect_runs, lent, replay, run_logged, Called, Lent};
 use crate::machine::{Machine, Model};
 use crate::model::FETCH;
 use crate::random::Random;
@@ -61,6 +61,31 @@ fn log_word(random: &mut Random) -> u32 {
     random.pick(&[4 << 28, 4 << 28 | FETCH, 5 << 28]) | random.word() as u32
 }
 
+/// A logged run by the published Rust: how it ends, what it leaves, its log in the records, and the least room that it needs.
+pub struct Published {
+    run: Run,
+    pub left: Lent,
+    pub needed: usize,
+}
+
+impl Published {
+    pub fn run(program: &Program, limit: u32) -> Published {
+        let mut reference = Reference::new(program.core, program.memory.clone(), &vec![0; program.memory.len()]);
+        let (run, log, needed) = reference.run_logged(limit);
+        let left = Lent { marks: reference.marks(), ..lent(reference.registers(), reference.words().to_vec(), 0, log) };
+        Published { run, left, needed }
+    }
+
+    /// What it comes to where this was lent, with room enough and every right that the run needs.
+    pub fn expected(&self, given: &Lent) -> Called<LoggedRun> {
+        let Run { end, steps } = self.run;
+        let log = &self.left.records;
+        let records = [log, &given.records[log.len()..]].concat();
+        let left = Lent { rights: given.rights.clone(), records, ..self.left.clone() };
+        Called { answer: LoggedRun { end, steps, logged: log.len() }, left }
+    }
+}
+
 struct Logs<'a> {
     machine: &'a dyn Machine,
     random: Random,
@@ -86,20 +111,12 @@ pub fn logs(machine: &dyn Machine, programs: usize, steps: u32, report: &mut Rep
 impl Logs<'_> {
     /// A run with room enough, against the published Rust. Returns its log and the least room that is enough.
     fn run(&mut self, program: &Program, limit: u32) -> (Vec<u32>, usize) {
-        let mut reference = Reference::new(program.core, program.memory.clone(), &vec![0; program.memory.len()]);
-        let (Run { end, steps }, log, needed) = reference.run_logged(limit);
-        let given = with_room(program, needed + self.random.below(8));
-        let left = Lent {
-            core: reference.registers(),
-            memory: reference.words().to_vec(),
-            marks: reference.marks(),
-            records: [&log, &given.records[log.len()..]].concat(),
-        };
-        let expected = Called { answer: LoggedRun { end, steps, logged: log.len() }, left };
+        let published = Published::run(program, limit);
+        let given = with_room(program, published.needed + self.random.below(8));
         self.report.count("logged runs compared with the reads of the published Rust", 1);
-        self.report.count("words in their logs", log.len() as u64);
-        self.compare(&given, limit, &expected);
-        (log, needed)
+        self.report.count("words in their logs", published.left.records.len() as u64);
+        self.compare(&given, limit, &published.expected(&given));
+        (published.left.records, published.needed)
     }
 
     /// Small rooms, and one below, at and above what is needed, against the model.
@@ -115,17 +132,9 @@ impl Logs<'_> {
         }
     }
 
-    /// A logged run; the run without a log, as far as there was room; and the replay, for which memory is dropped.
     fn compare(&mut self, given: &Lent, limit: u32, expected: &Called<LoggedRun>) {
-        expect(self.machine, "a logged run", given, run_logged(limit), expected, self.report);
-        let Called { answer: LoggedRun { end, steps, logged }, ref left } = *expected;
-        let (end, limit) = if end == Outcome::Log(30) { (Outcome::Limit, steps) } else { (end, limit) };
-        let plain =
-            Called { answer: Run { end, steps }, left: Lent { records: given.records.clone(), ..left.clone() } };
-        expect(self.machine, "the run without a log", given, run(limit), &plain, self.report);
-        let log = lent(given.core, vec![], 0, left.records[..logged].to_vec());
-        let replayed = Called { answer: Run { end, steps }, left: Lent { core: left.core, ..log.clone() } };
-        expect(self.machine, "a replay", &log, replay(given.memory.len(), limit), &replayed, self.report);
+        let what = ["a logged run", "the run without a log", "a replay"];
+        expect_runs(self.machine, what, given, limit, expected, self.report);
         self.report.count("replays of a run's log", 1);
     }
 
@@ -169,6 +178,6 @@ impl Logs<'_> {
 }
 
 /// What a run of the program is lent, with so many words for its log.
-fn with_room(program: &Program, room: usize) -> Lent {
+pub fn with_room(program: &Program, room: usize) -> Lent {
     lent(program.core, program.memory.clone(), program.memory.len(), vec![0xDEAD_BEEF; room])
 }

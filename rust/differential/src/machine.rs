@@ -2,7 +2,7 @@
 
 use std::cmp::Ordering;
 
-use crate::model;
+use crate::model::{self, Rights};
 use nilguseg::{Core, Fault, Instruction, LoggedRun, Outcome, Refusal, Run};
 
 pub trait Machine {
@@ -18,8 +18,8 @@ pub trait Machine {
         model::step(core, memory, marks)
     }
 
-    fn run(&self, core: &mut Core, memory: &mut [u16], marks: &mut [u8], limit: u32) -> Run {
-        model::run(core, memory, marks, limit)
+    fn run(&self, core: &mut Core, memory: &mut [u16], marks: &mut [u8], rights: Rights, limit: u32) -> Run {
+        model::run(core, memory, marks, rights, limit)
     }
 
     fn run_logged(
@@ -27,14 +27,15 @@ pub trait Machine {
         core: &mut Core,
         memory: &mut [u16],
         marks: &mut [u8],
+        rights: Rights,
         limit: u32,
         log: &mut [u32],
     ) -> LoggedRun {
-        model::run_logged(core, memory, marks, limit, log)
+        model::run_logged(core, memory, marks, rights, limit, log)
     }
 
-    fn replay(&self, core: &mut Core, size: usize, limit: u32, log: &[u32]) -> Run {
-        model::replay(core, size, limit, log)
+    fn replay(&self, core: &mut Core, size: usize, rights: Rights, limit: u32, log: &[u32]) -> Run {
+        model::replay(core, size, rights, limit, log)
     }
 
     fn load_words(&self, core: &mut Core, words: &[u16], memory: &mut [u16]) -> Result<(), Refusal> {
@@ -79,8 +80,11 @@ impl Machine for Library {
         core.step(memory, marks)
     }
 
-    fn run(&self, core: &mut Core, memory: &mut [u16], marks: &mut [u8], limit: u32) -> Run {
-        core.run(memory, marks, limit)
+    fn run(&self, core: &mut Core, memory: &mut [u16], marks: &mut [u8], rights: Rights, limit: u32) -> Run {
+        match rights {
+            None => core.run(memory, marks, limit),
+            Some(rights) => core.run_guarded(memory, marks, rights, limit),
+        }
     }
 
     fn run_logged(
@@ -88,14 +92,21 @@ impl Machine for Library {
         core: &mut Core,
         memory: &mut [u16],
         marks: &mut [u8],
+        rights: Rights,
         limit: u32,
         log: &mut [u32],
     ) -> LoggedRun {
-        core.run_logged(memory, marks, limit, log)
+        match rights {
+            None => core.run_logged(memory, marks, limit, log),
+            Some(rights) => core.run_logged_guarded(memory, marks, rights, limit, log),
+        }
     }
 
-    fn replay(&self, core: &mut Core, size: usize, limit: u32, log: &[u32]) -> Run {
-        core.replay(size, limit, log)
+    fn replay(&self, core: &mut Core, size: usize, rights: Rights, limit: u32, log: &[u32]) -> Run {
+        match rights {
+            None => core.replay(size, limit, log),
+            Some(rights) => core.replay_guarded(size, rights, limit, log),
+        }
     }
 
     fn load_words(&self, core: &mut Core, words: &[u16], memory: &mut [u16]) -> Result<(), Refusal> {

@@ -1,10 +1,12 @@
 //! Wrong machines, each the model with one mistake. The comparison must report every one of them; the first
 //! five are the "Mistakes met in such machines" of document 01.
 
+mod rights;
+
 use std::cmp::Ordering;
 
 use crate::machine::Machine;
-use crate::model::{self, DATA, FETCH};
+use crate::model::{self, Guard, Rights, DATA, FETCH};
 use nilguseg::{kind::*, Core, Fault, Instruction, LoggedRun, Outcome, Refusal, Run};
 
 pub struct WrongMachine {
@@ -17,11 +19,14 @@ enum Mistake {
     Decode(fn(u16) -> Result<Instruction, Fault>),
     Encode(fn(Instruction) -> Option<u16>),
     Step(fn(&mut Stepped)),
-    Run(fn(&mut Core, &mut [u16], &mut [u8], u32) -> Run),
+    Run(fn(&mut Core, &mut [u16], &mut [u8], Rights, u32) -> Run),
     RunLogged(RunLogged),
     Logged(fn(&mut LoggedRun, &mut [u32])),
-    Replay(fn(&mut Core, usize, u32, &[u32]) -> Run),
+    Replay(Replay),
     Found(model::Found),
+    Access(model::Access),
+    /// What the machine takes the rights for that it is given.
+    Rights(fn(&[u8]) -> Vec<u8>),
     LoadWords(Load<u16>),
     LoadSheet(Load<u32>),
     WriteSheet(Write),
@@ -29,7 +34,8 @@ enum Mistake {
     Earlier(for<'a> fn(&'a [u16], &'a [u16]) -> &'a [u16]),
 }
 
-type RunLogged = fn(&mut Core, &mut [u16], &mut [u8], u32, &mut [u32]) -> LoggedRun;
+type RunLogged = fn(&mut Core, &mut [u16], &mut [u8], Rights, u32, &mut [u32]) -> LoggedRun;
+type Replay = fn(&mut Core, usize, Rights, u32, &[u32]) -> Run;
 type Load<T> = fn(&mut Core, &[T], &mut [u16]) -> Result<(), Refusal>;
 type Write = fn(&Core, &[u16], &mut [u32]) -> Result<usize, Refusal>;
 
@@ -80,6 +86,7 @@ fn wrong_step(
     core: &mut Core,
     memory: &mut [u16],
     marks: &mut [u8],
+    guard: Guard,
     words: &mut Vec<u32>,
 ) -> Outcome {
     let before = *core;
@@ -94,12 +101,38 @@ fn wrong_step(
     } as usize;
     let mark = marks.get(address).copied();
     let mut log = Vec::new();
-    let answer = model::step_logged(core, memory, marks, Some(&mut log));
+    let answer = model::step_of_run(core, memory, marks, guard, Some(&mut log));
     let kind = fetched.map(|instruction| instruction.kind);
     let mut stepped = Stepped { before, kind, first, second, address, mark, core, memory, marks, log, answer };
     step(&mut stepped);
     words.extend(stepped.log);
     stepped.answer
+}
+
+impl WrongMachine {
+    /// The rights of a run, and what its accesses are tested by.
+    fn guard<'a>(&self, rights: Rights<'a>) -> Guard<'a> {
+        match self.mistake {
+            Mistake::Access(access) => Guard { rights, access },
+            _ => Guard::of(rights),
+        }
+    }
+
+    /// A step of a run, which adds its reads to the words.
+    fn step_of_run(
+        &self,
+        core: &mut Core,
+        memory: &mut [u16],
+        marks: &mut [u8],
+        rights: Rights,
+        words: &mut Vec<u32>,
+    ) -> Outcome {
+        let guard = self.guard(rights);
+        match self.mistake {
+            Mistake::Step(step) => wrong_step(step, core, memory, marks, guard, words),
+            _ => model::step_of_run(core, memory, marks, guard, Some(words)),
+        }
+    }
 }
 
 impl Machine for WrongMachine {
@@ -119,17 +152,22 @@ impl Machine for WrongMachine {
 
     fn step(&self, core: &mut Core, memory: &mut [u16], marks: &mut [u8]) -> Outcome {
         match self.mistake {
-            Mistake::Step(step) => wrong_step(step, core, memory, marks, &mut Vec::new()),
+            Mistake::Step(step) => wrong_step(step, core, memory, marks, Guard::of(None), &mut Vec::new()),
             _ => model::step(core, memory, marks),
         }
     }
 
-    fn run(&self, core: &mut Core, memory: &mut [u16], marks: &mut [u8], limit: u32) -> Run {
-        let wrong_steps = |core: &mut Core, memory: &mut [u16], marks: &mut [u8]| self.step(core, memory, marks);
+    fn run(&self, core: &mut Core, memory: &mut [u16], marks: &mut [u8], rights: Rights, limit: u32) -> Run {
         match self.mistake {
-            Mistake::Run(run) => run(core, memory, marks, limit),
-            Mistake::Step(_) => model::run_by(wrong_steps, core, memory, marks, limit),
-            _ => model::run(core, memory, marks, limit),
+            Mistake::Run(run) => run(core, memory, marks, rights, limit),
+            Mistake::Step(_) | Mistake::Access(_) => {
+                let wrong_steps = |core: &mut Core, memory: &mut [u16], marks: &mut [u8]| {
+                    self.step_of_run(core, memory, marks, rights, &mut Vec::new())
+                };
+                model::run_by(wrong_steps, core, memory, marks, rights, limit)
+            }
+            Mistake::Rights(taken) => model::run(core, memory, marks, rights.map(taken).as_deref(), limit),
+            _ => model::run(core, memory, marks, rights, limit),
         }
     }
 
@@ -138,31 +176,34 @@ impl Machine for WrongMachine {
         core: &mut Core,
         memory: &mut [u16],
         marks: &mut [u8],
+        rights: Rights,
         limit: u32,
         log: &mut [u32],
     ) -> LoggedRun {
         match self.mistake {
-            Mistake::RunLogged(run) => run(core, memory, marks, limit, log),
+            Mistake::RunLogged(run) => run(core, memory, marks, rights, limit, log),
             Mistake::Logged(spoil) => {
-                let mut run = model::run_logged(core, memory, marks, limit, log);
+                let mut run = model::run_logged(core, memory, marks, rights, limit, log);
                 spoil(&mut run, log);
                 run
             }
-            Mistake::Step(step) => {
+            Mistake::Step(_) | Mistake::Access(_) => {
                 let wrong_steps = |core: &mut Core, memory: &mut [u16], marks: &mut [u8], words: &mut Vec<u32>| {
-                    wrong_step(step, core, memory, marks, words)
+                    self.step_of_run(core, memory, marks, rights, words)
                 };
-                model::run_logged_by(wrong_steps, core, memory, marks, limit, log)
+                model::run_logged_by(wrong_steps, core, memory, marks, rights, limit, log)
             }
-            _ => model::run_logged(core, memory, marks, limit, log),
+            Mistake::Rights(taken) => model::run_logged(core, memory, marks, rights.map(taken).as_deref(), limit, log),
+            _ => model::run_logged(core, memory, marks, rights, limit, log),
         }
     }
 
-    fn replay(&self, core: &mut Core, size: usize, limit: u32, log: &[u32]) -> Run {
+    fn replay(&self, core: &mut Core, size: usize, rights: Rights, limit: u32, log: &[u32]) -> Run {
         match self.mistake {
-            Mistake::Replay(replay) => replay(core, size, limit, log),
-            Mistake::Found(found) => model::replay_by(found, core, size, limit, log),
-            _ => model::replay(core, size, limit, log),
+            Mistake::Replay(replay) => replay(core, size, rights, limit, log),
+            Mistake::Found(found) => model::replay_by(found, Guard::of(rights), core, size, limit, log),
+            Mistake::Rights(taken) => model::replay(core, size, rights.map(taken).as_deref(), limit, log),
+            _ => model::replay_by(model::found, self.guard(rights), core, size, limit, log),
         }
     }
 
@@ -218,7 +259,12 @@ const fn other(name: &'static str, mistake: Mistake) -> WrongMachine {
     WrongMachine { name, mistake }
 }
 
-pub const WRONG_MACHINES: [WrongMachine; 77] = [
+/// All of them.
+pub fn wrong_machines() -> impl Iterator<Item = &'static WrongMachine> {
+    WRONG_MACHINES.iter().chain(&rights::RIGHTS)
+}
+
+const WRONG_MACHINES: [WrongMachine; 77] = [
     step("ip is not advanced on an undecodable word", |s| {
         if s.fault(10) {
             s.core.ip = s.before.ip;
@@ -241,8 +287,8 @@ pub const WRONG_MACHINES: [WrongMachine; 77] = [
     }),
     other(
         "limit is reported for a core that just halted",
-        Mistake::Run(|core, memory, marks, limit| {
-            let run = model::run(core, memory, marks, limit);
+        Mistake::Run(|core, memory, marks, rights, limit| {
+            let run = model::run(core, memory, marks, rights, limit);
             if run.end == Outcome::Halted && run.steps == limit {
                 Run { end: Outcome::Limit, ..run }
             } else {
@@ -379,8 +425,8 @@ pub const WRONG_MACHINES: [WrongMachine; 77] = [
     }),
     other(
         "a step that faults is counted",
-        Mistake::Run(|core, memory, marks, limit| {
-            let run = model::run(core, memory, marks, limit);
+        Mistake::Run(|core, memory, marks, rights, limit| {
+            let run = model::run(core, memory, marks, rights, limit);
             if matches!(run.end, Outcome::Fault(_)) {
                 Run { steps: run.steps + 1, ..run }
             } else {
@@ -390,17 +436,17 @@ pub const WRONG_MACHINES: [WrongMachine; 77] = [
     ),
     other(
         "a run keeps the marks that it finds",
-        Mistake::Run(|core, memory, marks, limit| {
+        Mistake::Run(|core, memory, marks, rights, limit| {
             let found = marks.to_vec();
-            let run = model::run(core, memory, marks, limit);
+            let run = model::run(core, memory, marks, rights, limit);
             marks.iter_mut().zip(found).for_each(|(mark, found)| *mark |= found);
             run
         }),
     ),
     other(
         "a run goes one step past its limit",
-        Mistake::Run(|core, memory, marks, limit| {
-            let run = model::run(core, memory, marks, limit);
+        Mistake::Run(|core, memory, marks, rights, limit| {
+            let run = model::run(core, memory, marks, rights, limit);
             if run.end == Outcome::Limit {
                 model::step(core, memory, marks);
             }
@@ -409,9 +455,9 @@ pub const WRONG_MACHINES: [WrongMachine; 77] = [
     ),
     other(
         "a refused run clears the marks",
-        Mistake::Run(|core, memory, marks, limit| {
+        Mistake::Run(|core, memory, marks, rights, limit| {
             marks.fill(0);
-            model::run(core, memory, marks, limit)
+            model::run(core, memory, marks, rights, limit)
         }),
     ),
     step("the lengths are tested in another order", |s| {
@@ -575,18 +621,18 @@ pub const WRONG_MACHINES: [WrongMachine; 77] = [
     }),
     other(
         "room for three words is enough",
-        Mistake::RunLogged(|core, memory, marks, limit, log| {
+        Mistake::RunLogged(|core, memory, marks, rights, limit, log| {
             let mut longer = [&log[..], &[0]].concat();
-            let run = model::run_logged(core, memory, marks, limit, &mut longer);
+            let run = model::run_logged(core, memory, marks, rights, limit, &mut longer);
             log.copy_from_slice(&longer[..log.len()]);
             LoggedRun { logged: run.logged.min(log.len()), ..run }
         }),
     ),
     other(
         "room for four words is not enough",
-        Mistake::RunLogged(|core, memory, marks, limit, log| {
+        Mistake::RunLogged(|core, memory, marks, rights, limit, log| {
             let shorter = log.len().saturating_sub(1);
-            model::run_logged(core, memory, marks, limit, &mut log[..shorter])
+            model::run_logged(core, memory, marks, rights, limit, &mut log[..shorter])
         }),
     ),
     found("a replay does not look at the address", |read, log| match *log {
@@ -616,16 +662,16 @@ pub const WRONG_MACHINES: [WrongMachine; 77] = [
     }),
     other(
         "a replay leaves words over",
-        Mistake::Replay(|core, size, limit, log| {
-            let left = model::follow(model::found, *core, size, limit, log).left;
-            model::replay(core, size, limit, &log[..log.len() - left])
+        Mistake::Replay(|core, size, rights, limit, log| {
+            let left = model::follow(model::found, Guard::of(rights), *core, size, limit, log).left;
+            model::replay(core, size, rights, limit, &log[..log.len() - left])
         }),
     ),
     other(
         "a replay answered by 31 hands back another core",
-        Mistake::Replay(|core, size, limit, log| {
-            let followed = model::follow(model::found, *core, size, limit, log);
-            let run = model::replay(core, size, limit, log);
+        Mistake::Replay(|core, size, rights, limit, log| {
+            let followed = model::follow(model::found, Guard::of(rights), *core, size, limit, log);
+            let run = model::replay(core, size, rights, limit, log);
             if run.end == Outcome::Log(31) {
                 *core = followed.core;
             }
@@ -634,9 +680,9 @@ pub const WRONG_MACHINES: [WrongMachine; 77] = [
     ),
     other(
         "a replay answered by 31 has steps",
-        Mistake::Replay(|core, size, limit, log| {
-            let followed = model::follow(model::found, *core, size, limit, log);
-            let run = model::replay(core, size, limit, log);
+        Mistake::Replay(|core, size, rights, limit, log| {
+            let followed = model::follow(model::found, Guard::of(rights), *core, size, limit, log);
+            let run = model::replay(core, size, rights, limit, log);
             match run.end {
                 Outcome::Log(31) => Run { steps: followed.run.steps, ..run },
                 _ => run,
@@ -645,21 +691,23 @@ pub const WRONG_MACHINES: [WrongMachine; 77] = [
     ),
     other(
         "a replay with memory of no word is not refused",
-        Mistake::Replay(|core, size, limit, log| model::replay(core, size.max(1), limit, log)),
+        Mistake::Replay(|core, size, rights, limit, log| model::replay(core, size.max(1), rights, limit, log)),
     ),
     other(
         "a replay goes by the low 32 bits of the size",
-        Mistake::Replay(|core, size, limit, log| model::replay(core, size as u32 as usize, limit, log)),
+        Mistake::Replay(|core, size, rights, limit, log| model::replay(core, size as u32 as usize, rights, limit, log)),
     ),
     other(
         "a replay knows no address out of range",
-        Mistake::Replay(|core, size, limit, log| match size {
-            1..65536 => model::replay(core, 65536, limit, log),
-            _ => model::replay(core, size, limit, log),
+        Mistake::Replay(|core, size, rights, limit, log| match size {
+            1..65536 => model::replay(core, 65536, rights, limit, log),
+            _ => model::replay(core, size, rights, limit, log),
         }),
     ),
     other(
         "a replay goes past its limit",
-        Mistake::Replay(|core, size, limit, log| model::replay(core, size, limit.max(log.len() as u32), log)),
+        Mistake::Replay(|core, size, rights, limit, log| {
+            model::replay(core, size, rights, limit.max(log.len() as u32), log)
+        }),
     ),
 ];

@@ -1,11 +1,11 @@
 //! The machine of document 01, written from its text alone, plainly and slowly: decoding looks a word up in
 //! a table made by encoding every operand of every row. It is the base of the wrong machines, and the measure
 //! for what the published Rust does not have: refusals, sheets, and document 02's order of word lists, the room
-//! for a log and the replay.
+//! for a log, the replay, and rights over memory pages where one is absent.
 
 use std::cmp::Ordering;
 
-use nilguseg::{kind::*, Core, Fault, Instruction, LoggedRun, Outcome, Refusal, Run};
+use nilguseg::{kind::*, right, Core, Fault, Instruction, LoggedRun, Outcome, Refusal, Run, PAGES};
 
 /// Where an operand stands in a word: how many values it has, and its lowest bit.
 struct Operand {
@@ -127,6 +127,47 @@ fn place(operand: &Operand, value: u8) -> Option<u16> {
     (value < operand.values).then_some(value << operand.shift)
 }
 
+/// The rights bytes of a run, if it was given any.
+pub type Rights<'a> = Option<&'a [u8]>;
+
+/// Tests an access by its address, the right that it needs, memory's length and the rights.
+pub type Access = fn(u16, u8, usize, Rights) -> Result<(), Fault>;
+
+/// Document 01's stop 11, then document 02's 33.
+pub fn access(at: u16, need: u8, length: usize, rights: Rights) -> Result<(), Fault> {
+    if at as usize >= length {
+        return Err(Fault { number: 11, value: at });
+    }
+    match rights {
+        Some(rights) if rights.get(at as usize / 256).is_none_or(|byte| byte & need == 0) => {
+            Err(Fault { number: 33, value: at })
+        }
+        _ => Ok(()),
+    }
+}
+
+/// The rights that a run has, and what its accesses are tested by.
+#[derive(Clone, Copy)]
+pub struct Guard<'a> {
+    pub rights: Rights<'a>,
+    pub access: Access,
+}
+
+impl<'a> Guard<'a> {
+    pub fn of(rights: Rights<'a>) -> Guard<'a> {
+        Guard { rights, access }
+    }
+
+    fn read(&self, at: u16, purpose: u32, length: usize) -> Result<(), Fault> {
+        let need = if purpose == FETCH { right::EXECUTE } else { right::READ };
+        (self.access)(at, need, length, self.rights)
+    }
+
+    fn write(&self, at: u16, length: usize) -> Result<(), Fault> {
+        (self.access)(at, right::WRITE, length, self.rights)
+    }
+}
+
 /// What a step reads and writes: the memory lent to it, or a log in memory's place.
 trait Words {
     /// The purpose is `FETCH` or `DATA`.
@@ -138,12 +179,13 @@ trait Words {
 struct Lent<'a> {
     memory: &'a mut [u16],
     marks: &'a mut [u8],
+    guard: Guard<'a>,
     log: Option<&'a mut Vec<u32>>,
 }
 
 impl Words for Lent<'_> {
     fn read(&mut self, at: u16, purpose: u32) -> Result<u16, Fault> {
-        in_range(at, self.memory.len())?;
+        self.guard.read(at, purpose, self.memory.len())?;
         let word = self.memory[at as usize];
         let mark = &mut self.marks[at as usize];
         if *mark & 2 == 0 {
@@ -156,18 +198,10 @@ impl Words for Lent<'_> {
     }
 
     fn write(&mut self, at: u16, word: u16) -> Result<(), Fault> {
-        in_range(at, self.memory.len())?;
+        self.guard.write(at, self.memory.len())?;
         self.memory[at as usize] = word;
         self.marks[at as usize] |= 2;
         Ok(())
-    }
-}
-
-fn in_range(at: u16, length: usize) -> Result<(), Fault> {
-    if (at as usize) < length {
-        Ok(())
-    } else {
-        Err(Fault { number: 11, value: at })
     }
 }
 
@@ -181,12 +215,18 @@ pub fn entry(purpose: u32, at: u16, word: u16) -> [u32; 2] {
 }
 
 /// The first host test that fails on what a step or a run is lent.
-fn host_test(memory: &[u16], marks: &[u8]) -> Result<(), Refusal> {
+fn host_test(memory: &[u16], marks: &[u8], rights: Rights) -> Result<(), Refusal> {
     length_test(memory.len())?;
-    if marks.len() == memory.len() {
-        Ok(())
-    } else {
-        Err(Refusal(2))
+    if marks.len() != memory.len() {
+        return Err(Refusal(2));
+    }
+    rights_test(rights)
+}
+
+pub fn rights_test(rights: Rights) -> Result<(), Refusal> {
+    match rights {
+        Some(rights) if rights.len() != PAGES || rights.iter().any(|byte| *byte > 7) => Err(Refusal(32)),
+        _ => Ok(()),
     }
 }
 
@@ -199,18 +239,24 @@ fn length_test(length: usize) -> Result<(), Refusal> {
 }
 
 pub fn step(core: &mut Core, memory: &mut [u16], marks: &mut [u8]) -> Outcome {
-    step_logged(core, memory, marks, None)
+    step_of_run(core, memory, marks, Guard::of(None), None)
 }
 
-/// A step that adds its reads to the log, if there is one.
-pub fn step_logged(core: &mut Core, memory: &mut [u16], marks: &mut [u8], log: Option<&mut Vec<u32>>) -> Outcome {
-    if let Err(refusal) = host_test(memory, marks) {
+/// A step with a guard, whose rights are tested already, that adds its reads to the log, if there is one.
+pub fn step_of_run(
+    core: &mut Core,
+    memory: &mut [u16],
+    marks: &mut [u8],
+    guard: Guard,
+    log: Option<&mut Vec<u32>>,
+) -> Outcome {
+    if let Err(refusal) = host_test(memory, marks, None) {
         return Outcome::Refused(refusal);
     }
     if core.is_halted() {
         return Outcome::Halted;
     }
-    turn(core, &mut Lent { memory, marks, log })
+    turn(core, &mut Lent { memory, marks, guard, log })
 }
 
 /// A step of a core that is not halted.
@@ -238,7 +284,7 @@ fn execute(core: &mut Core, instruction: Instruction, word: u16, words: &mut dyn
         MOV => core.r[first] = core.r[second],
         PUTL => core.r[first] = core.r[first] / 256 * 256 + second as u16,
         PUTH => core.r[first] = core.r[first] % 256 + second as u16 * 256,
-        READ..=POP => access(core, instruction, words)?,
+        READ..=POP => load_or_store(core, instruction, words)?,
         MOVSO => core.r[first] = [core.ip, core.rp, core.sp, core.ef][second],
         MOVSI => *[&mut core.ip, &mut core.rp, &mut core.sp, &mut core.ef][first] = core.r[second],
         SPADD => core.sp = sum(core.sp, core.r[first]),
@@ -262,7 +308,7 @@ fn execute(core: &mut Core, instruction: Instruction, word: u16, words: &mut dyn
 }
 
 /// The kinds that touch memory.
-fn access(core: &mut Core, instruction: Instruction, words: &mut dyn Words) -> Result<(), Fault> {
+fn load_or_store(core: &mut Core, instruction: Instruction, words: &mut dyn Words) -> Result<(), Fault> {
     let (first, second) = (instruction.first as usize, instruction.second as usize);
     match instruction.kind {
         READ => core.r[first] = words.read(core.r[second], DATA)?,
@@ -335,19 +381,22 @@ fn set_condition(core: &mut Core, condition: bool) {
     core.ef = if condition { core.ef | 0x0002 } else { core.ef & 0xFFFD };
 }
 
-pub fn run(core: &mut Core, memory: &mut [u16], marks: &mut [u8], limit: u32) -> Run {
-    run_by(step, core, memory, marks, limit)
+pub fn run(core: &mut Core, memory: &mut [u16], marks: &mut [u8], rights: Rights, limit: u32) -> Run {
+    let guard = Guard::of(rights);
+    let step = |core: &mut Core, memory: &mut [u16], marks: &mut [u8]| step_of_run(core, memory, marks, guard, None);
+    run_by(step, core, memory, marks, rights, limit)
 }
 
-/// A run by the step given.
+/// A run by the step given, after the host tests.
 pub fn run_by(
     mut step: impl FnMut(&mut Core, &mut [u16], &mut [u8]) -> Outcome,
     core: &mut Core,
     memory: &mut [u16],
     marks: &mut [u8],
+    rights: Rights,
     limit: u32,
 ) -> Run {
-    if let Err(refusal) = host_test(memory, marks) {
+    if let Err(refusal) = host_test(memory, marks, rights) {
         return Run { end: Outcome::Refused(refusal), steps: 0 };
     }
     marks.fill(0);
@@ -372,11 +421,19 @@ fn turns(mut step: impl FnMut(&mut Core) -> Outcome, core: &mut Core, limit: u32
     Run { end, steps }
 }
 
-pub fn run_logged(core: &mut Core, memory: &mut [u16], marks: &mut [u8], limit: u32, log: &mut [u32]) -> LoggedRun {
+pub fn run_logged(
+    core: &mut Core,
+    memory: &mut [u16],
+    marks: &mut [u8],
+    rights: Rights,
+    limit: u32,
+    log: &mut [u32],
+) -> LoggedRun {
+    let guard = Guard::of(rights);
     let step = |core: &mut Core, memory: &mut [u16], marks: &mut [u8], words: &mut Vec<u32>| {
-        step_logged(core, memory, marks, Some(words))
+        step_of_run(core, memory, marks, guard, Some(words))
     };
-    run_logged_by(step, core, memory, marks, limit, log)
+    run_logged_by(step, core, memory, marks, rights, limit, log)
 }
 
 /// A logged run by the step given, which adds its reads to the words logged.
@@ -385,6 +442,7 @@ pub fn run_logged_by(
     core: &mut Core,
     memory: &mut [u16],
     marks: &mut [u8],
+    rights: Rights,
     limit: u32,
     log: &mut [u32],
 ) -> LoggedRun {
@@ -393,7 +451,7 @@ pub fn run_logged_by(
         0..4 => Outcome::Log(30),
         _ => step(core, memory, marks, &mut words),
     };
-    let Run { end, steps } = run_by(step_with_room, core, memory, marks, limit);
+    let Run { end, steps } = run_by(step_with_room, core, memory, marks, rights, limit);
     log[..words.len()].copy_from_slice(&words);
     LoggedRun { end, steps, logged: words.len() }
 }
@@ -411,6 +469,7 @@ pub fn found(address_word: u32, log: &[u32]) -> Option<u16> {
 /// A log in the place of a memory of `size` words: what of it is still to be read.
 struct Tape<'a> {
     size: usize,
+    guard: Guard<'a>,
     rest: &'a [u32],
     found: Found,
 }
@@ -420,7 +479,7 @@ const MISMATCH: Fault = Fault { number: 31, value: 0 };
 
 impl Words for Tape<'_> {
     fn read(&mut self, at: u16, purpose: u32) -> Result<u16, Fault> {
-        in_range(at, self.size)?;
+        self.guard.read(at, purpose, self.size)?;
         let [address_word, _] = entry(purpose, at, 0);
         let word = (self.found)(address_word, self.rest).ok_or(MISMATCH)?;
         self.rest = self.rest.get(2..).unwrap_or_default();
@@ -428,7 +487,7 @@ impl Words for Tape<'_> {
     }
 
     fn write(&mut self, at: u16, _: u16) -> Result<(), Fault> {
-        in_range(at, self.size)
+        self.guard.write(at, self.size)
     }
 }
 
@@ -439,22 +498,22 @@ pub struct Followed {
     pub left: usize,
 }
 
-pub fn follow(found: Found, mut core: Core, size: usize, limit: u32, log: &[u32]) -> Followed {
-    let mut tape = Tape { size, rest: log, found };
+pub fn follow(found: Found, guard: Guard, mut core: Core, size: usize, limit: u32, log: &[u32]) -> Followed {
+    let mut tape = Tape { size, guard, rest: log, found };
     let run = turns(|core| turn(core, &mut tape), &mut core, limit);
     Followed { core, run, left: tape.rest.len() }
 }
 
-pub fn replay(core: &mut Core, size: usize, limit: u32, log: &[u32]) -> Run {
-    replay_by(found, core, size, limit, log)
+pub fn replay(core: &mut Core, size: usize, rights: Rights, limit: u32, log: &[u32]) -> Run {
+    replay_by(found, Guard::of(rights), core, size, limit, log)
 }
 
 /// A replay that takes the words that `found` finds.
-pub fn replay_by(found: Found, core: &mut Core, size: usize, limit: u32, log: &[u32]) -> Run {
-    if let Err(refusal) = length_test(size) {
+pub fn replay_by(found: Found, guard: Guard, core: &mut Core, size: usize, limit: u32, log: &[u32]) -> Run {
+    if let Err(refusal) = length_test(size).and_then(|()| rights_test(guard.rights)) {
         return Run { end: Outcome::Refused(refusal), steps: 0 };
     }
-    let followed = follow(found, *core, size, limit, log);
+    let followed = follow(found, guard, *core, size, limit, log);
     if followed.run.end == Outcome::Fault(MISMATCH) || followed.left > 0 {
         return Run { end: Outcome::Log(31), steps: 0 };
     }

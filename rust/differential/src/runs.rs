@@ -120,7 +120,7 @@ fn compare_run(machine: &dyn Machine, program: &Program, limit: u32, report: &mu
 
     // marks that the run has to clear first
     let (mut core, mut memory, mut marks) = (program.core, program.memory.clone(), vec![0xA7; length]);
-    let run = machine.run(&mut core, &mut memory, &mut marks, limit);
+    let run = machine.run(&mut core, &mut memory, &mut marks, None, limit);
     let same_memory = memory == reference.words() && marks == reference.marks();
     if run != expected || core != reference.registers() || !same_memory {
         report.disagree("a run", || {

@@ -28,6 +28,16 @@ unsafe extern "C" {
         marks_len: usize,
         limit: u32,
     ) -> u64;
+    pub fn nilguseg_run_guarded(
+        core: *mut Core,
+        memory: *mut u16,
+        memory_len: usize,
+        marks: *mut u8,
+        marks_len: usize,
+        rights: *const u8,
+        rights_len: usize,
+        limit: u32,
+    ) -> u64;
     pub fn nilguseg_run_logged(
         core: *mut Core,
         memory: *mut u16,
@@ -39,7 +49,29 @@ unsafe extern "C" {
         log_len: usize,
         logged: *mut usize,
     ) -> u64;
+    pub fn nilguseg_run_logged_guarded(
+        core: *mut Core,
+        memory: *mut u16,
+        memory_len: usize,
+        marks: *mut u8,
+        marks_len: usize,
+        rights: *const u8,
+        rights_len: usize,
+        limit: u32,
+        log: *mut u32,
+        log_len: usize,
+        logged: *mut usize,
+    ) -> u64;
     pub fn nilguseg_replay(core: *mut Core, size: usize, limit: u32, log: *const u32, log_len: usize) -> u64;
+    pub fn nilguseg_replay_guarded(
+        core: *mut Core,
+        size: usize,
+        rights: *const u8,
+        rights_len: usize,
+        limit: u32,
+        log: *const u32,
+        log_len: usize,
+    ) -> u64;
     pub fn nilguseg_load_words(
         core: *mut Core,
         words: *const u16,
@@ -74,6 +106,7 @@ unsafe extern "C" {
 #[cfg(test)]
 mod tests {
     use super::*;
+    use crate::{right, PAGES};
 
     #[test]
     fn the_header_has_the_same_numbers() {
@@ -85,6 +118,10 @@ mod tests {
             format!("NILGUSEG_FAULT = {FAULT},"),
             format!("NILGUSEG_REFUSED = {REFUSED},"),
             format!("NILGUSEG_LOG = {LOG} "),
+            format!("NILGUSEG_MAY_READ = {},", right::READ),
+            format!("NILGUSEG_MAY_WRITE = {},", right::WRITE),
+            format!("NILGUSEG_MAY_EXECUTE = {},", right::EXECUTE),
+            format!("NILGUSEG_PAGES = {PAGES}\n"),
             format!("NILGUSEG_EQUAL = {EQUAL},"),
             format!("NILGUSEG_FIRST = {FIRST},"),
             format!("NILGUSEG_SECOND = {SECOND}\n"),
@@ -136,5 +173,30 @@ mod tests {
         assert_eq!(log_answers(0x4600, 1, 9), (0x030A_4600_0000_0000, 0x030A_4600_0000_0000, 2));
         assert_eq!(log_answers(0x60FF, 1, 9), (0x051E_0000_0000_0003, 0x051F_0000_0000_0000, 6));
         assert_eq!(log_answers(0x1003, 2, 9), (0x0402_0000_0000_0000, 0x051F_0000_0000_0000, 0));
+    }
+
+    /// The answers to a guarded run of at most one step, of `word` alone in memory, to the same with a log, and to its replay.
+    fn guarded_answers(word: u16, rights: &[u8]) -> [u64; 3] {
+        let (mut memory, mut marks, mut log, mut logged) = ([word], [0], [0; 8], 99);
+        let [mut plain, mut ran, mut seen] = [Core::new(); 3];
+        // SAFETY: pointers and lengths are those of slices, and the log has no more words than its length.
+        unsafe {
+            let (memory, marks) = (memory.as_mut_ptr(), marks.as_mut_ptr());
+            let (rights, count, log) = (rights.as_ptr(), rights.len(), log.as_mut_ptr());
+            [
+                nilguseg_run_guarded(&mut plain, memory, 1, marks, 1, rights, count, 1),
+                nilguseg_run_logged_guarded(&mut ran, memory, 1, marks, 1, rights, count, 1, log, 8, &mut logged),
+                nilguseg_replay_guarded(&mut seen, 1, rights, count, 1, log, logged),
+            ]
+        }
+    }
+
+    #[test]
+    fn guarded_calls_answer_by_it_too() {
+        assert_eq!(guarded_answers(0x1003, &[4; 256]), [0x0200_0000_0000_0001; 3]);
+        assert_eq!(guarded_answers(0x1003, &[3; 256]), [0x0321_0000_0000_0000; 3]);
+        assert_eq!(guarded_answers(0x23D0, &[7; 256]), [0x030B_FFFE_0000_0000; 3]);
+        assert_eq!(guarded_answers(0x1003, &[8; 256]), [0x0420_0000_0000_0000; 3]);
+        assert_eq!(guarded_answers(0x1003, &[7; 257]), [0x0420_0000_0000_0000; 3]);
     }
 }

@@ -52,6 +52,24 @@ impl Core {
         run(answer)
     }
 
+    /// `run` with rights, one byte for each page: the sum of what `right` has. An access whose right is absent is fault 33.
+    pub fn run_guarded(&mut self, memory: &mut [u16], marks: &mut [u8], rights: &[u8], limit: u32) -> Run {
+        // SAFETY: as in `step`.
+        let answer = unsafe {
+            ffi::nilguseg_run_guarded(
+                self,
+                memory.as_mut_ptr(),
+                memory.len(),
+                marks.as_mut_ptr(),
+                marks.len(),
+                rights.as_ptr(),
+                rights.len(),
+                limit,
+            )
+        };
+        run(answer)
+    }
+
     /// `run` with a log of its reads: two words each, at the front of `log`. Ends by 30 where fewer than four are free before
     /// a step; four for each step of the limit always suffice.
     pub fn run_logged(&mut self, memory: &mut [u16], marks: &mut [u8], limit: u32, log: &mut [u32]) -> LoggedRun {
@@ -70,8 +88,36 @@ impl Core {
                 &mut logged,
             )
         };
-        let Run { end, steps } = run(answer);
-        LoggedRun { end, steps, logged }
+        logged_run(answer, logged)
+    }
+
+    /// `run_logged` with rights, as `run_guarded` has them. A read whose right is absent is not logged.
+    pub fn run_logged_guarded(
+        &mut self,
+        memory: &mut [u16],
+        marks: &mut [u8],
+        rights: &[u8],
+        limit: u32,
+        log: &mut [u32],
+    ) -> LoggedRun {
+        let mut logged = 0;
+        // SAFETY: as in `run_logged`.
+        let answer = unsafe {
+            ffi::nilguseg_run_logged_guarded(
+                self,
+                memory.as_mut_ptr(),
+                memory.len(),
+                marks.as_mut_ptr(),
+                marks.len(),
+                rights.as_ptr(),
+                rights.len(),
+                limit,
+                log.as_mut_ptr(),
+                log.len(),
+                &mut logged,
+            )
+        };
+        logged_run(answer, logged)
     }
 
     /// A logged run seen again, of the core that it started with, the length of its memory, its limit and the words of its log:
@@ -80,6 +126,14 @@ impl Core {
     pub fn replay(&mut self, size: usize, limit: u32, log: &[u32]) -> Run {
         // SAFETY: as in `step`.
         run(unsafe { ffi::nilguseg_replay(self, size, limit, log.as_ptr(), log.len()) })
+    }
+
+    /// `replay` of a run with rights, which must be those of the run.
+    pub fn replay_guarded(&mut self, size: usize, rights: &[u8], limit: u32, log: &[u32]) -> Run {
+        // SAFETY: as in `step`.
+        run(unsafe {
+            ffi::nilguseg_replay_guarded(self, size, rights.as_ptr(), rights.len(), limit, log.as_ptr(), log.len())
+        })
     }
 
     /// Zeroes memory and copies the words to its beginning. The core becomes a fresh one, also where it refuses.
@@ -139,6 +193,11 @@ fn ordering(answer: u32) -> Ordering {
 
 fn run(answer: u64) -> Run {
     Run { end: outcome((answer >> 32) as u32), steps: answer as u32 }
+}
+
+fn logged_run(answer: u64, logged: usize) -> LoggedRun {
+    let Run { end, steps } = run(answer);
+    LoggedRun { end, steps, logged }
 }
 
 fn outcome(answer: u32) -> Outcome {

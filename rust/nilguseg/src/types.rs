@@ -37,7 +37,7 @@ impl Default for Core {
     }
 }
 
-/// A stop that the rule words cause: 10 undecodable, 11 out of range, 12 to 14 where the published Rust panics.
+/// A stop that the rule words cause: 10 undecodable, 11 out of range, 12 to 14 where the published Rust panics, 33 a right absent.
 #[derive(Debug, Clone, Copy, PartialEq, Eq)]
 pub struct Fault {
     pub number: u8,
@@ -45,9 +45,19 @@ pub struct Fault {
     pub value: u16,
 }
 
-/// A stop by which a call is refused: 1 to 4 the host's, 20 to 26 the sheet's.
+/// A stop by which a call is refused: 1 to 4 and 32 the host's, 20 to 26 the sheet's.
 #[derive(Debug, Clone, Copy, PartialEq, Eq)]
 pub struct Refusal(pub u8);
+
+/// How many rights a run may be given: one byte for each page of 256 addresses, the sum of what is allowed there.
+pub const PAGES: usize = 256;
+
+/// What a rights byte may allow: a fetch needs `EXECUTE`, every other read `READ`, a write `WRITE`.
+pub mod right {
+    pub const READ: u8 = 1;
+    pub const WRITE: u8 = 2;
+    pub const EXECUTE: u8 = 4;
+}
 
 /// How a step or a run came out.
 #[derive(Debug, Clone, Copy, PartialEq, Eq)]

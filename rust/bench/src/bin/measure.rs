@@ -1,4 +1,4 @@
-//! usage: measure published|library|logged|replay
+//! usage: measure published|library|guarded|logged|logged-guarded|replay|replay-guarded
 //! Runs the programs of both tables, and prints for each the CPU nanoseconds per step and a digest of what the run left.
 //! Built twice: with and without overflow checks, which are those of the published Rust.
 
@@ -10,7 +10,7 @@ use bench::{cpu_time, tables};
 use delta_null_core_emulator::core::Core as PublishedCore;
 use delta_null_core_emulator::memory::{Memory, MemoryError};
 use differential::programs::full_memory;
-use nilguseg::{Core, LoggedRun, Outcome, Run};
+use nilguseg::{Core, LoggedRun, Outcome, Run, PAGES};
 
 /// A memory that keeps the marks, as the library does.
 struct Marked {
@@ -62,49 +62,60 @@ fn published(memory: Vec<u16>, limit: u32) -> Done {
     Done { time, run, core: registers, memory: core.memory.words, marks }
 }
 
-fn library(mut memory: Vec<u16>, limit: u32) -> Done {
+type Plain = fn(&mut Core, &mut [u16], &mut [u8], u32) -> Run;
+type Logged = fn(&mut Core, &mut [u16], &mut [u8], u32, &mut [u32]) -> LoggedRun;
+type Replay = fn(&mut Core, usize, u32, &[u32]) -> Run;
+
+/// Every right on every page.
+static RIGHTS: [u8; PAGES] = [7; PAGES];
+
+const GUARDED: Plain = |core, memory, marks, limit| core.run_guarded(memory, marks, black_box(&RIGHTS), limit);
+const LOGGED_GUARDED: Logged =
+    |core, memory, marks, limit, log| core.run_logged_guarded(memory, marks, black_box(&RIGHTS), limit, log);
+const REPLAY_GUARDED: Replay = |core, size, limit, log| core.replay_guarded(size, black_box(&RIGHTS), limit, log);
+
+fn plain(run: Plain, mut memory: Vec<u16>, limit: u32) -> Done {
     let mut marks = vec![0; memory.len()];
     let mut core = Core::new();
     let start = cpu_time();
-    let run = core.run(&mut memory, &mut marks, black_box(limit));
+    let run = run(&mut core, &mut memory, &mut marks, black_box(limit));
     let time = cpu_time() - start;
     Done { time, run, core, memory, marks }
 }
 
 /// A logged run, and its log.
-fn with_log(mut memory: Vec<u16>, limit: u32) -> (Done, Vec<u32>) {
+fn logged(run: Logged, mut memory: Vec<u16>, limit: u32) -> (Done, Vec<u32>) {
     let mut marks = vec![0; memory.len()];
     // enough for any run, and not zeros, whose pages would be made only once the clock runs
     let mut log = vec![u32::MAX; 4 * limit as usize];
     let mut core = Core::new();
     let start = cpu_time();
-    let LoggedRun { end, steps, logged } = core.run_logged(&mut memory, &mut marks, black_box(limit), &mut log);
+    let LoggedRun { end, steps, logged } = run(&mut core, &mut memory, &mut marks, black_box(limit), &mut log);
     let time = cpu_time() - start;
     log.truncate(logged);
     (Done { time, run: Run { end, steps }, core, memory, marks }, log)
 }
 
-fn logged(memory: Vec<u16>, limit: u32) -> Done {
-    with_log(memory, limit).0
-}
-
 /// Memory and marks, which a replay has not, are those of the run that made the log.
-fn replay(memory: Vec<u16>, limit: u32) -> Done {
-    let (done, log) = with_log(memory, limit);
+fn replay(replay: Replay, memory: Vec<u16>, limit: u32) -> Done {
+    let (done, log) = logged(Core::run_logged, memory, limit);
     let mut core = Core::new();
     let start = cpu_time();
-    let run = core.replay(done.memory.len(), black_box(limit), &log);
+    let run = replay(&mut core, done.memory.len(), black_box(limit), &log);
     let time = cpu_time() - start;
     Done { time, run, core, ..done }
 }
 
 fn main() {
-    let machine = match std::env::args().nth(1).as_deref() {
+    let machine: fn(Vec<u16>, u32) -> Done = match std::env::args().nth(1).as_deref() {
         Some("published") => published,
-        Some("library") => library,
-        Some("logged") => logged,
-        Some("replay") => replay,
-        _ => panic!("usage: measure published|library|logged|replay"),
+        Some("library") => |memory, limit| plain(Core::run, memory, limit),
+        Some("guarded") => |memory, limit| plain(GUARDED, memory, limit),
+        Some("logged") => |memory, limit| logged(Core::run_logged, memory, limit).0,
+        Some("logged-guarded") => |memory, limit| logged(LOGGED_GUARDED, memory, limit).0,
+        Some("replay") => |memory, limit| replay(Core::replay, memory, limit),
+        Some("replay-guarded") => |memory, limit| replay(REPLAY_GUARDED, memory, limit),
+        _ => panic!("usage: measure published|library|guarded|logged|logged-guarded|replay|replay-guarded"),
     };
     for program in tables().into_iter().flatten() {
         let done = machine(full_memory(&program.words), program.limit);

@@ -2,7 +2,7 @@
 //! The model that they are made from must pass.
 
 use differential::machine::{Machine, Model};
-use differential::mistakes::WRONG_MACHINES;
+use differential::mistakes::wrong_machines;
 use differential::report::Report;
 use differential::{compare, reference, CONTROL};
 use std::process::ExitCode;
@@ -17,8 +17,9 @@ fn main() -> ExitCode {
     reference::silence_expected_panics();
     let model = report(&Model);
     println!("the model: {} disagreements", model.disagreements);
-    let mut reported = 0;
-    for machine in &WRONG_MACHINES {
+    let (mut reported, mut tried) = (0, 0);
+    for machine in wrong_machines() {
+        tried += 1;
         match report(machine).first {
             None => println!("NOT REPORTED: {}", machine.name),
             Some(first) => {
@@ -27,6 +28,6 @@ fn main() -> ExitCode {
             }
         }
     }
-    println!("{reported} of {} wrong machines reported", WRONG_MACHINES.len());
-    ExitCode::from((model.disagreements > 0 || reported < WRONG_MACHINES.len()) as u8)
+    println!("{reported} of {tried} wrong machines reported");
+    ExitCode::from((model.disagreements > 0 || reported < tried) as u8)
 }
