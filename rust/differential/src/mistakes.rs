@@ -264,7 +264,7 @@ pub fn wrong_machines() -> impl Iterator<Item = &'static WrongMachine> {
     WRONG_MACHINES.iter().chain(&rights::RIGHTS)
 }
 
-const WRONG_MACHINES: [WrongMachine; 77] = [
+const WRONG_MACHINES: [WrongMachine; 80] = [
     step("ip is not advanced on an undecodable word", |s| {
         if s.fault(10) {
             s.core.ip = s.before.ip;
@@ -468,6 +468,21 @@ const WRONG_MACHINES: [WrongMachine; 77] = [
     other(
         "0x2158 decodes as dmov",
         Mistake::Decode(|word| if word == 0x2158 { model::decode(0x2118) } else { model::decode(word) }),
+    ),
+    other(
+        "putl and puth exchanged",
+        Mistake::Decode(|word| model::decode(if word >> 12 == 1 { word ^ 0x0800 } else { word })),
+    ),
+    other(
+        "putl of r7 is undecodable",
+        Mistake::Decode(|word| match word {
+            0x1700..=0x17FF => Err(Fault { number: 10, value: word }),
+            _ => model::decode(word),
+        }),
+    ),
+    other(
+        "putl of r7 is puth of r0",
+        Mistake::Decode(|word| model::decode(if word >> 8 == 0x17 { word + 0x0100 } else { word })),
     ),
     other(
         "spread refuses an offset above 15",

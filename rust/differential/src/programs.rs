@@ -1,4 +1,4 @@
-//! Programs with loops, calls and a stack: five endless ones to measure by, and random ones that end.
+//! Programs with loops, calls and a stack: six endless ones to measure by, and random ones that end.
 
 use crate::random::Random;
 use crate::states::word;
@@ -16,8 +16,15 @@ fn back(words: usize) -> u8 {
 }
 
 /// The endless loops that speed is measured by.
-pub fn loops() -> [(&'static str, Vec<u16>); 5] {
-    [("arithmetic", arithmetic()), ("copy", copy()), ("call", call()), ("immediates", immediates()), ("mixed", mixed())]
+pub fn loops() -> [(&'static str, Vec<u16>); 6] {
+    [
+        ("arithmetic", arithmetic()),
+        ("copy", copy()),
+        ("call", call()),
+        ("immediates", immediates()),
+        ("mixed", mixed()),
+        ("long rule", long_rule()),
+    ]
 }
 
 /// Memory of 65,536 words with a program at 0 and something to copy at 0x4000.
@@ -101,6 +108,35 @@ fn mixed() -> Vec<u16> {
     words.push(word(NOP, 0, 0)); // what a last cjmpoff may skip
     words.extend(set(0, 0));
     words.push(word(CALL, 0, 0));
+    words
+}
+
+/// A rule written out in full, as document 02 has it: 2,000 words, three of four of them putl and puth, in no order; then
+/// back to 0 by a call, so that no loop is shorter.
+fn long_rule() -> Vec<u16> {
+    let mut random = Random::new(2000);
+    let mut words = Vec::new();
+    while words.len() < 1997 {
+        words.extend(clause(&mut random));
+    }
+    words.truncate(1997);
+    words.extend(set(0, 0));
+    words.push(word(CALL, 0, 0));
+    words
+}
+
+/// One register set or two, and then a sum or a comparison; none stops.
+fn clause(random: &mut Random) -> Vec<u16> {
+    let (first, second) = (random.below(8) as u8, random.below(8) as u8);
+    let mut words = set(first, random.word()).to_vec();
+    if random.one_in(2) {
+        words.extend(set(second, random.word()));
+    }
+    words.push(match random.below(10) {
+        0 => word(INV, 0, 0),
+        n @ 1..=3 => word([INC, DEC, EQZ][n - 1], first, 0),
+        n => word([ADD, SUB, MUL, EQ, GT, GTEQ][n - 4], first, second),
+    });
     words
 }
 
