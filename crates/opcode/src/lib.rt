@@ -1,7 +1,7 @@
 // The opcode of a word, by ranges of its upper byte and then of its lower byte: the first half of decoding.
 #![tactic(auto)]
 
-ghost use Rattle.std.specs.Prelude.{◌≡◌, ◌<◌, ◌≤◌};
+ghost use Rattle.std.specs.Prelude.{◌≡◌, ◌<◌, ◌≤◌, ◌⊎◌};
 ghost use Rattle.opcode.specs.Opcode.{single_of, general_of, general_or_decimal_of, paired_of, memory_of, moves_of, pointer_of, stack_of, slots_of, ands_of, unary_of, zero_of, calls_of, opcode_of};
 
 // The kind of an instruction, or that a word is undecodable. One flat enum, so that it takes one byte.
@@ -69,24 +69,42 @@ pub enum InstructionOpcode {
     Ret,
 }
 
-// The opcode of the word with the upper byte hi and the lower byte lo. Ranges of the upper byte are halved, since a match on many single
-// values becomes a jump through a table, which costs more in a long irregular program (docs/PERFORMANCE.md). The two bytes are what the
-// ranges match, and so are two parameters: a struct of the two would be taken apart in each function.
+// The opcode of the word with the upper byte hi and the lower byte lo. The ranges of putl and puth are tested before any other, since most
+// words of a long rule are theirs: one test tells both from the rest. The two bytes are what the ranges match, and so are two parameters:
+// a struct of the two would be taken apart in each function.
 pub fn opcode(hi: u8, lo: u8) -> InstructionOpcode
     ensures { result ≡ opcode_of hi lo }
 {
     match hi {
-        0x00..=0x3F => match hi {
-            0x00..=0x21 => match hi {
-                0x00..=0x1F => nop_or_immediate(hi, lo),
-                0x20 => memory(lo),
-                _ => moves(lo),
-            },
-            _ => stack(hi, lo),
+        0x10..=0x1F => match hi {
+            0x10..=0x17 => InstructionOpcode::Putl,
+            _ => InstructionOpcode::Puth,
         },
-        0x40..=0x4F => match hi {
-            0x40..=0x47 => logic(hi, lo),
-            _ => arithmetic(hi, lo),
+        _ => other(hi, lo),
+    }
+}
+
+// Every upper byte but those of putl and puth. Its ranges are halved, since a match on many single values becomes a jump through a table,
+// which costs more in a long irregular program (docs/PERFORMANCE.md); two or three values do not.
+fn other(hi: u8, lo: u8) -> InstructionOpcode
+    requires { (hi < 0x10) ⊎ (0x20 ≤ hi) }
+    ensures { result ≡ opcode_of hi lo }
+{
+    match hi {
+        0x00..=0x4F => match hi {
+            0x00..=0x3F => match hi {
+                0x00..=0x21 => match hi {
+                    0x00 => nop(lo),
+                    0x20 => memory(lo),
+                    0x21 => moves(lo),
+                    _ => InstructionOpcode::Undecodable,
+                },
+                _ => stack(hi, lo),
+            },
+            _ => match hi {
+                0x40..=0x47 => logic(hi, lo),
+                _ => arithmetic(hi, lo),
+            },
         },
         _ => match hi {
             0x50..=0x5F => comparison(hi, lo),
@@ -95,18 +113,12 @@ pub fn opcode(hi: u8, lo: u8) -> InstructionOpcode
     }
 }
 
-// Upper bytes 0x00 to 0x1F: nop, putl, puth.
-fn nop_or_immediate(hi: u8, lo: u8) -> InstructionOpcode
-    requires { hi < 0x20 }
-    ensures { result ≡ opcode_of hi lo }
+// Upper byte 0x00: nop.
+fn nop(lo: u8) -> InstructionOpcode
+    ensures { result ≡ opcode_of 0x00 lo }
 {
-    match hi {
-        0x00 => match lo {
-            0x00 => InstructionOpcode::Nop,
-            _ => InstructionOpcode::Undecodable,
-        },
-        0x10..=0x17 => InstructionOpcode::Putl,
-        0x18..=0x1F => InstructionOpcode::Puth,
+    match lo {
+        0x00 => InstructionOpcode::Nop,
         _ => InstructionOpcode::Undecodable,
     }
 }
@@ -140,10 +152,8 @@ fn stack(hi: u8, lo: u8) -> InstructionOpcode
     ensures { result ≡ opcode_of hi lo }
 {
     match hi {
-        0x22..=0x23 => match hi {
-            0x22 => pointer(lo),
-            _ => push_or_pop(lo),
-        },
+        0x22 => pointer(lo),
+        0x23 => push_or_pop(lo),
         0x30 => slots(lo),
         _ => InstructionOpcode::Undecodable,
     }
@@ -160,13 +170,13 @@ fn pointer(lo: u8) -> InstructionOpcode
     }
 }
 
-// Upper byte 0x23: push, pop.
+// Upper byte 0x23: push, pop, by the lower byte without its register.
 fn push_or_pop(lo: u8) -> InstructionOpcode
     ensures { result ≡ stack_of lo }
 {
-    match lo {
-        0xD0..=0xD7 => InstructionOpcode::Push,
-        0xD8..=0xDF => InstructionOpcode::Pop,
+    match lo / 8 {
+        0x1A => InstructionOpcode::Push,
+        0x1B => InstructionOpcode::Pop,
         _ => InstructionOpcode::Undecodable,
     }
 }
@@ -222,9 +232,11 @@ fn arithmetic(hi: u8, lo: u8) -> InstructionOpcode
             0x48 => unary(lo),
             _ => paired(lo, InstructionOpcode::Add),
         },
-        0x4A => paired(lo, InstructionOpcode::Sub),
-        0x4B => paired(lo, InstructionOpcode::Mul),
-        _ => InstructionOpcode::Undecodable,
+        _ => match hi {
+            0x4A => paired(lo, InstructionOpcode::Sub),
+            0x4B => paired(lo, InstructionOpcode::Mul),
+            _ => InstructionOpcode::Undecodable,
+        },
     }
 }
 
@@ -250,18 +262,24 @@ fn comparison(hi: u8, lo: u8) -> InstructionOpcode
             0x50 => zero(lo),
             _ => paired(lo, InstructionOpcode::Eq),
         },
-        0x52 => paired(lo, InstructionOpcode::Gt),
-        0x53 => paired(lo, InstructionOpcode::Gteq),
-        _ => InstructionOpcode::Undecodable,
+        _ => match hi {
+            0x52 => paired(lo, InstructionOpcode::Gt),
+            0x53 => paired(lo, InstructionOpcode::Gteq),
+            _ => InstructionOpcode::Undecodable,
+        },
     }
 }
 
-// Upper byte 0x50: inv, eqz.
+// Upper byte 0x50: inv, eqz. The lower bytes below 8 are apart, so that the compiler leads eqz straight to its instruction
+// (docs/PERFORMANCE.md).
 fn zero(lo: u8) -> InstructionOpcode
     ensures { result ≡ zero_of lo }
 {
     match lo {
-        0x00 => InstructionOpcode::Inv,
+        0x00..=0x07 => match lo {
+            0x00 => InstructionOpcode::Inv,
+            _ => InstructionOpcode::Undecodable,
+        },
         0x10..=0x17 => InstructionOpcode::Eqz,
         _ => InstructionOpcode::Undecodable,
     }
@@ -277,23 +295,28 @@ fn branching_or_hlt(hi: u8, lo: u8) -> InstructionOpcode
             0x60 => InstructionOpcode::Jmpoff,
             _ => InstructionOpcode::Cjmpoff,
         },
-        0x62 => calls(lo),
-        0x63 => single(lo, InstructionOpcode::Cjmp),
-        0xFF => match lo {
-            0xFF => InstructionOpcode::Hlt,
+        _ => match hi {
+            0x62 => calls(lo),
+            0x63 => single(lo, InstructionOpcode::Cjmp),
+            0xFF => match lo {
+                0xFF => InstructionOpcode::Hlt,
+                _ => InstructionOpcode::Undecodable,
+            },
             _ => InstructionOpcode::Undecodable,
         },
-        _ => InstructionOpcode::Undecodable,
     }
 }
 
-// Upper byte 0x62: call, ret.
+// Upper byte 0x62: call, ret. The lower bytes of ret's eight are apart, as those of inv are.
 fn calls(lo: u8) -> InstructionOpcode
     ensures { result ≡ calls_of lo }
 {
     match lo {
         0x10..=0x17 => InstructionOpcode::Call,
-        0x18 => InstructionOpcode::Ret,
+        0x18..=0x1F => match lo {
+            0x18 => InstructionOpcode::Ret,
+            _ => InstructionOpcode::Undecodable,
+        },
         _ => InstructionOpcode::Undecodable,
     }
 }
