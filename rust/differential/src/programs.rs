@@ -125,7 +125,7 @@ fn long_rule() -> Vec<u16> {
     words
 }
 
-/// One register set or two, and then a sum or a comparison; none stops.
+/// One register set or two, and then one word of arithmetic or comparison; none stops.
 fn clause(random: &mut Random) -> Vec<u16> {
     let (first, second) = (random.below(8) as u8, random.below(8) as u8);
     let mut words = set(first, random.word()).to_vec();
