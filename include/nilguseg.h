@@ -2,8 +2,11 @@
  * for the logged runs, libnilguseg_log.a, for the replays, libnilguseg_replay.a, and for nilguseg_run_guarded,
  * libnilguseg_guarded.a.
  *
- * The numbers of faults and refusals are those of document 01; the order of word lists, the log and the rights over memory,
- * with the numbers from 30 on, are those of document 02.
+ * The numbers of faults and refusals are those of document 01; the order of word lists, the log, the rights over memory and
+ * the editions of the instruction set, with the numbers from 30 on, are those of document 02.
+ *
+ * An edition is handed over by its number, 1 or 2: steps, runs, replays and the sheet writer take one, and a load gives one
+ * back. Edition 1 is that of document 01.
  *
  * Required of every call: each pointer is valid for its length (one core or one number, else as many elements as
  * the length beside it says), and what is lent for writing overlaps nothing else that is lent.
@@ -37,7 +40,7 @@ enum {
     NILGUSEG_HALTED = 1,  /* the core was halted already, or the run halted it */
     NILGUSEG_LIMIT = 2,   /* of a run: its limit of steps was reached */
     NILGUSEG_FAULT = 3,   /* the words caused a stop */
-    NILGUSEG_REFUSED = 4, /* the lengths or the rights do not fit; nothing was changed */
+    NILGUSEG_REFUSED = 4, /* the lengths, the rights or the edition do not fit; nothing was changed */
     NILGUSEG_LOG = 5      /* of a logged run or a replay: the log ended it */
 };
 
@@ -118,12 +121,15 @@ uint32_t nilguseg_encode(uint8_t kind, uint8_t first, uint8_t second);
  *   10  the word is undecodable [word]
  *   11  the address is at or past memory's length [address]; at a fetch ip stays, at a push sp stays lowered
  *   12  dmov, dread, dwrite [word]
- *   13  shl, shr, bitset by 16 or more [amount]
- *   14  neg of 0x8000 [0x8000]
- * Refused, with core, memory and marks unchanged:
+ *   13  in edition 1 shl, shr, bitset by 16 or more [amount]
+ *   14  in edition 1 neg of 0x8000 [0x8000]
+ * In edition 2 such a shl or shr gives 0, such a bitset leaves its register, and neg of 0x8000 gives 0x8000.
+ * Refused, with core, memory and marks unchanged, tested in this order:
  *   1   memory_len is not 1 to 65,536
- *   2   marks_len differs from memory_len */
-uint32_t nilguseg_step(nilguseg_core *core, uint16_t *memory, size_t memory_len, uint8_t *marks, size_t marks_len);
+ *   2   marks_len differs from memory_len
+ *   34  edition is neither 1 nor 2 */
+uint32_t nilguseg_step(nilguseg_core *core, uint16_t *memory, size_t memory_len, uint8_t *marks, size_t marks_len,
+                       uint16_t edition);
 
 /* Sets all marks to 0, then steps until the core is halted, `limit` steps are counted, or a step faults.
  *   bits 63..56  NILGUSEG_HALTED, _LIMIT, _FAULT or _REFUSED
@@ -133,16 +139,16 @@ uint32_t nilguseg_step(nilguseg_core *core, uint16_t *memory, size_t memory_len,
  * Halt is tested before the limit. A mark is then 0, or the sum of 1 (read before this run wrote there) and
  * 2 (written). Faults and refusals are those of nilguseg_step; a refused run changes nothing and has 0 steps. */
 uint64_t nilguseg_run(nilguseg_core *core, uint16_t *memory, size_t memory_len, uint8_t *marks, size_t marks_len,
-                      uint32_t limit);
+                      uint16_t edition, uint32_t limit);
 
 /* nilguseg_run with rights: a fetch needs NILGUSEG_MAY_EXECUTE, every other read NILGUSEG_MAY_READ, a write
  * NILGUSEG_MAY_WRITE. One more fault, tested after 11:
  *   33  the right is absent on the address's page [address]; at a fetch ip stays, at a push sp stays lowered
  * Such an access leaves no mark. Refused too, with core, memory and marks unchanged:
- *   32  rights_len is not 256, or a byte of the rights is above 7; tested after 2
+ *   32  rights_len is not 256, or a byte of the rights is above 7; tested after 2 and before 34
  * With 256 bytes of 7 it is nilguseg_run. */
 uint64_t nilguseg_run_guarded(nilguseg_core *core, uint16_t *memory, size_t memory_len, uint8_t *marks, size_t marks_len,
-                              const uint8_t *rights, size_t rights_len, uint32_t limit);
+                              const uint8_t *rights, size_t rights_len, uint16_t edition, uint32_t limit);
 
 /* nilguseg_run with a log: two words for each read, in order. Their other bits are 0.
  *   bits 31..28  4, bit 16 set for a fetch, bits 15..0 the address
@@ -155,50 +161,54 @@ uint64_t nilguseg_run_guarded(nilguseg_core *core, uint16_t *memory, size_t memo
  * A run that ends so leaves core, memory and marks as nilguseg_run does with the limit set to those steps. Any other is that
  * of nilguseg_run in everything. Four log words for each step of the limit always suffice. */
 uint64_t nilguseg_run_logged(nilguseg_core *core, uint16_t *memory, size_t memory_len, uint8_t *marks, size_t marks_len,
-                             uint32_t limit, uint32_t *log, size_t log_len, size_t *logged);
+                             uint16_t edition, uint32_t limit, uint32_t *log, size_t log_len, size_t *logged);
 
 /* nilguseg_run_logged with rights, as nilguseg_run_guarded has them. A read whose right is absent is not logged. */
 uint64_t nilguseg_run_logged_guarded(nilguseg_core *core, uint16_t *memory, size_t memory_len, uint8_t *marks,
-                                     size_t marks_len, const uint8_t *rights, size_t rights_len, uint32_t limit,
-                                     uint32_t *log, size_t log_len, size_t *logged);
+                                     size_t marks_len, const uint8_t *rights, size_t rights_len, uint16_t edition,
+                                     uint32_t limit, uint32_t *log, size_t log_len, size_t *logged);
 
-/* Sees a logged run again, without its memory: takes the core that it started with, its memory_len as size, its limit and
- * the words of its log. If the run was not refused and did not end by 30, answers as it did, and the core becomes the one
- * that it left. The word of a read is taken as logged. Other answers, with 0 steps and the core unchanged:
+/* Sees a logged run again, without its memory: takes the core that it started with, its memory_len as size, its edition, its
+ * limit and the words of its log. If the run was not refused and did not end by 30, answers as it did, and the core becomes
+ * the one that it left. The word of a read is taken as logged. Other answers, with 0 steps and the core unchanged:
  *   bits 63..56  NILGUSEG_LOG or _REFUSED
  *   bits 55..48  with _LOG 31: the next two log words are not the read that is made, the log is over too soon, or words are
- *                left over; with _REFUSED 1: size is not 1 to 65,536 */
-uint64_t nilguseg_replay(nilguseg_core *core, size_t size, uint32_t limit, const uint32_t *log, size_t log_len);
+ *                left over; with _REFUSED 1: size is not 1 to 65,536, or else 34: edition is neither 1 nor 2 */
+uint64_t nilguseg_replay(nilguseg_core *core, size_t size, uint16_t edition, uint32_t limit, const uint32_t *log,
+                         size_t log_len);
 
 /* nilguseg_replay of a run with rights, which must be those of the run. Refused too, with the core unchanged:
- *   32  as nilguseg_run_guarded; tested after 1 */
-uint64_t nilguseg_replay_guarded(nilguseg_core *core, size_t size, const uint8_t *rights, size_t rights_len, uint32_t limit,
-                                 const uint32_t *log, size_t log_len);
+ *   32  as nilguseg_run_guarded; tested after 1 and before 34 */
+uint64_t nilguseg_replay_guarded(nilguseg_core *core, size_t size, const uint8_t *rights, size_t rights_len,
+                                 uint16_t edition, uint32_t limit, const uint32_t *log, size_t log_len);
 
-/* Zeroes memory, copies the words to its beginning and makes the core a fresh one. The answer is 0.
- * Refused, with memory unchanged and the core fresh; the answer is the number:
+/* Zeroes memory, copies the words to its beginning, makes the core a fresh one and *edition 1. The answer is 0.
+ * Refused, with memory unchanged, the core fresh and *edition 1; the answer is the number:
  *   1   memory_len is not 1 to 65,536
  *   3   words_len is above memory_len */
-uint32_t nilguseg_load_words(nilguseg_core *core, const uint16_t *words, size_t words_len, uint16_t *memory,
-                             size_t memory_len);
+uint32_t nilguseg_load_words(nilguseg_core *core, uint16_t *edition, const uint16_t *words, size_t words_len,
+                             uint16_t *memory, size_t memory_len);
 
-/* Loads a rule sheet: from a fresh core and zero memory, sets what its records say. The answer is 0.
- * Refused, with memory unchanged and the core fresh; the answer is the number:
+/* Loads a rule sheet: from a fresh core, zero memory and edition 1, sets what its records say, *edition with them. A record of
+ * kind 7 has the edition in bits 15..0; the last one counts. The answer is 0.
+ * Refused, with memory unchanged, the core fresh and *edition 1; the answer is the number:
  *   1   memory_len is not 1 to 65,536
  *   then the first of these, record by record:
  *   20  unknown kind                 21  a bit set that must be 0      22  register above 11
- *   23  a word at or past memory_len 26  wrong count at the end record 25  records after the end record
- *   24  no end record */
-uint32_t nilguseg_load_sheet(nilguseg_core *core, const uint32_t *sheet, size_t sheet_len, uint16_t *memory,
-                             size_t memory_len);
+ *   34  edition neither 1 nor 2      23  a word at or past memory_len  26  wrong count at the end record
+ *   25  records after the end record 24  no end record */
+uint32_t nilguseg_load_sheet(nilguseg_core *core, uint16_t *edition, const uint32_t *sheet, size_t sheet_len,
+                             uint16_t *memory, size_t memory_len);
 
-/* Writes the sheet that restores this core and memory when loaded into memory of the same length.
+/* Writes the sheet that restores this core, edition and memory when loaded into memory of the same length. Its first record is
+ * the edition where that is 2; for edition 1 there is none.
  *   bits 31..0   the number of records, the end included; the buffer past them is unchanged
- *   bits 63..32  0, or the number of the refusal, with the buffer unchanged and 0 records:
+ *   bits 63..32  0, or the number of the refusal, tested in this order, with the buffer unchanged and 0 records:
  *     1   memory_len is not 1 to 65,536
- *     4   sheet_len is below the number of records. 13 + memory_len + (memory_len + 1) / 2 always suffice. */
-uint64_t nilguseg_write_sheet(const nilguseg_core *core, const uint16_t *memory, size_t memory_len, uint32_t *sheet,
-                              size_t sheet_len);
+ *     34  edition is neither 1 nor 2
+ *     4   sheet_len is below the number of records. 14 + memory_len + (memory_len + 1) / 2 always suffice. */
+uint64_t nilguseg_write_sheet(const nilguseg_core *core, uint16_t edition, const uint16_t *memory, size_t memory_len,
+                              uint32_t *sheet, size_t sheet_len);
 
 /* Which of two word lists comes first. */
 enum {

@@ -1,5 +1,6 @@
 /* The worked example of document 01: putl r0 3, hlt; once from a word list, once from a rule sheet. Then its run logged and seen
- * again, a rule that may not read the fees, and word lists compared. Ends with status 1 if anything is not as the documents say. */
+ * again, a rule that may not read the fees, a sheet that chooses edition 2, and word lists compared. Ends with status 1 if
+ * anything is not as the documents say. */
 #include <stdbool.h>
 #include <stddef.h>
 #include <stdio.h>
@@ -35,25 +36,25 @@ static bool same_core(const nilguseg_core *left, const nilguseg_core *right)
     return memcmp(left, right, sizeof *left) == 0;
 }
 
-/* From a fresh core: limit 1, then again with limit 2. */
-static void run_example(nilguseg_core *core, uint16_t memory[2])
+/* From a fresh core, in the edition that loading answered: limit 1, then again with limit 2. */
+static void run_example(nilguseg_core *core, uint16_t edition, uint16_t memory[2])
 {
     static const nilguseg_core halted = {.r = {3}, .ip = 2, .sp = 0xFFFF, .ef = 1};
     nilguseg_core stopped = *core;
     uint8_t marks[2] = {9, 9};
 
-    uint64_t answer = nilguseg_run(&stopped, memory, 2, marks, 2, 1);
+    uint64_t answer = nilguseg_run(&stopped, memory, 2, marks, 2, edition, 1);
     print_line(answer, &stopped);
     expect(answer == ((uint64_t)NILGUSEG_LIMIT << 56 | 1), "limit 1 ends the run after 1 step");
     expect(marks[0] == 1 && marks[1] == 0, "only address 0 was read");
 
-    answer = nilguseg_run(core, memory, 2, marks, 2, 2);
+    answer = nilguseg_run(core, memory, 2, marks, 2, edition, 2);
     print_line(answer, core);
     expect(answer == ((uint64_t)NILGUSEG_HALTED << 56 | 2), "limit 2 lets it halt after 2 steps");
     expect(same_core(core, &halted), "r0 3, ip 2, ef 1");
     expect(marks[0] == 1 && marks[1] == 1, "both addresses were read");
 
-    uint32_t step = nilguseg_step(core, memory, 2, marks, 2);
+    uint32_t step = nilguseg_step(core, memory, 2, marks, 2, edition);
     expect(step == (uint32_t)NILGUSEG_HALTED << 24, "a further step answers halted");
 }
 
@@ -65,31 +66,32 @@ static void by_number(void)
     nilguseg_core core = {.sp = 0xFFFF}, halted = {.sp = 0xFFFF, .ef = 1};
 
     puts("-- outcomes by number");
-    expect(nilguseg_step(&core, memory, 2, marks, 2) == 0, "a step that executes putl: 0");
-    expect(nilguseg_step(&halted, memory, 2, marks, 2) == 0x01000000, "a step of a halted core: 1");
-    expect(nilguseg_run(&halted, memory, 2, marks, 2, 9) == 0x0100000000000000, "and a run of it: 1");
-    expect(nilguseg_run(&core, memory, 2, marks, 2, 0) == 0x0200000000000000, "a run of limit 0: 2");
-    expect(nilguseg_run(&core, memory, 2, marks, 2, 9) == 0x030A460000000000, "a run into an undecodable word: 3, 10");
+    expect(nilguseg_step(&core, memory, 2, marks, 2, 1) == 0, "a step that executes putl: 0");
+    expect(nilguseg_step(&halted, memory, 2, marks, 2, 1) == 0x01000000, "a step of a halted core: 1");
+    expect(nilguseg_run(&halted, memory, 2, marks, 2, 1, 9) == 0x0100000000000000, "and a run of it: 1");
+    expect(nilguseg_run(&core, memory, 2, marks, 2, 1, 0) == 0x0200000000000000, "a run of limit 0: 2");
+    expect(nilguseg_run(&core, memory, 2, marks, 2, 1, 9) == 0x030A460000000000, "a run into an undecodable word: 3, 10");
     core.ip = 2;
-    expect(nilguseg_step(&core, memory, 2, marks, 2) == 0x030B0002, "a step past memory: 3, 11");
-    expect(nilguseg_step(&core, memory, 2, marks, 1) == 0x04020000, "a step with too few marks: 4, 2");
-    expect(nilguseg_run(&core, memory, 0, marks, 0, 9) == 0x0401000000000000, "a run without memory: 4, 1");
+    expect(nilguseg_step(&core, memory, 2, marks, 2, 1) == 0x030B0002, "a step past memory: 3, 11");
+    expect(nilguseg_step(&core, memory, 2, marks, 1, 1) == 0x04020000, "a step with too few marks: 4, 2");
+    expect(nilguseg_run(&core, memory, 0, marks, 0, 1, 9) == 0x0401000000000000, "a run without memory: 4, 1");
+    expect(nilguseg_run(&core, memory, 2, marks, 2, 3, 9) == 0x0422000000000000, "a run in an edition 3: 4, 34");
 }
 
 static void from_words(void)
 {
     static const uint16_t words[2] = {0x1003, 0xFFFF};
     nilguseg_core core;
-    uint16_t memory[2];
+    uint16_t edition, memory[2];
 
     puts("-- a word list");
     expect(nilguseg_decode(words[0]) == ((uint32_t)NILGUSEG_PUTL << 16 | 3), "0x1003 is putl r0 3");
     expect(nilguseg_encode(NILGUSEG_HLT, 0, 0) == words[1], "hlt is 0xFFFF");
-    expect(nilguseg_load_words(&core, words, 2, memory, 2) == 0, "the list loads");
-    run_example(&core, memory);
+    expect(nilguseg_load_words(&core, &edition, words, 2, memory, 2) == 0 && edition == 1, "the list loads, in edition 1");
+    run_example(&core, edition, memory);
 
     uint16_t small[1] = {7};
-    expect(nilguseg_load_words(&core, words, 2, small, 1) == 3 && small[0] == 7,
+    expect(nilguseg_load_words(&core, &edition, words, 2, small, 1) == 3 && small[0] == 7,
            "a list longer than memory is refused with 3, memory unchanged");
 }
 
@@ -97,21 +99,44 @@ static void from_sheet(void)
 {
     static const uint32_t sheet[3] = {0x20001003, 0x2000FFFF, 0xF0000002};
     nilguseg_core core;
-    uint16_t memory[2];
+    uint16_t edition, memory[2];
 
     puts("-- a rule sheet");
-    expect(nilguseg_load_sheet(&core, sheet, 3, memory, 2) == 0, "the sheet loads");
-    run_example(&core, memory);
+    expect(nilguseg_load_sheet(&core, &edition, sheet, 3, memory, 2) == 0 && edition == 1, "the sheet loads, in edition 1");
+    run_example(&core, edition, memory);
 
     uint32_t written[16];
     nilguseg_core core_again;
     uint16_t memory_again[2];
-    uint64_t count = nilguseg_write_sheet(&core, memory, 2, written, 16);
+    uint64_t count = nilguseg_write_sheet(&core, edition, memory, 2, written, 16);
     expect(count == 16, "12 presets, a place, 2 words and the end are written");
-    expect(nilguseg_load_sheet(&core_again, written, 16, memory_again, 2) == 0, "what was written loads");
+    expect(nilguseg_load_sheet(&core_again, &edition, written, 16, memory_again, 2) == 0, "what was written loads");
     expect(same_core(&core, &core_again) && memcmp(memory, memory_again, sizeof memory) == 0,
            "and restores core and memory");
-    expect(nilguseg_load_sheet(&core, sheet, 2, memory, 2) == 24, "without its end record it is refused with 24");
+    expect(nilguseg_load_sheet(&core, &edition, sheet, 2, memory, 2) == 24, "without its end record it is refused with 24");
+}
+
+/* A rule that shifts 1 by 16: 1 in r0, 16 in r1, shl r0 r1, hlt. Its sheet is of edition 1, and of 2 with the first record. */
+static void from_sheet_with_edition(void)
+{
+    static const uint32_t sheet[6] = {0x70000002, 0x30000001, 0x30010010, 0x20004410, 0x2000FFFF, 0xF0000002};
+    nilguseg_core core;
+    uint16_t edition, memory[2];
+    uint8_t marks[2];
+    uint32_t written[17];
+
+    puts("-- a sheet that chooses its edition");
+    expect(nilguseg_load_sheet(&core, &edition, sheet + 1, 5, memory, 2) == 0 && edition == 1, "without the record: 1");
+    expect(nilguseg_run(&core, memory, 2, marks, 2, edition, 9) == 0x030D001000000000, "the shift stops: 3, 13, 16");
+
+    expect(nilguseg_load_sheet(&core, &edition, sheet, 6, memory, 2) == 0 && edition == 2, "with it: 2");
+    expect(nilguseg_write_sheet(&core, edition, memory, 2, written, 17) == 17 && written[0] == sheet[0],
+           "the writer puts it first");
+    expect(nilguseg_run(&core, memory, 2, marks, 2, edition, 9) == ((uint64_t)NILGUSEG_HALTED << 56 | 2), "the rule halts");
+    expect(core.r[0] == 0, "and the shift gave 0");
+
+    expect(nilguseg_load_sheet(&core, &edition, sheet, 5, memory, 2) == 24 && edition == 1, "a refused sheet: 1");
+    expect(nilguseg_write_sheet(&core, 3, memory, 2, written, 0) == (uint64_t)34 << 32, "a sheet of edition 3 is not written");
 }
 
 /* The example with a log, and seen again once its memory is lost. */
@@ -125,27 +150,27 @@ static void logged_and_replayed(void)
     size_t logged = 99;
 
     puts("-- a logged run and its replay");
-    expect(nilguseg_run_logged(&core, memory, 2, marks, 1, 2, log, 8, &logged) == 0x0402000000000000 && logged == 0,
+    expect(nilguseg_run_logged(&core, memory, 2, marks, 1, 1, 2, log, 8, &logged) == 0x0402000000000000 && logged == 0,
            "with too few marks it is refused, and nothing is logged");
-    uint64_t answer = nilguseg_run_logged(&core, memory, 2, marks, 2, 2, log, 8, &logged);
+    uint64_t answer = nilguseg_run_logged(&core, memory, 2, marks, 2, 1, 2, log, 8, &logged);
     print_line(answer, &core);
     expect(answer == ((uint64_t)NILGUSEG_HALTED << 56 | 2), "it halts after 2 steps");
     expect(logged == 4 && memcmp(log, reads, sizeof reads) == 0, "two fetches are logged, two words each");
     expect(log[4] == 7 && log[5] == 7 && log[6] == 7 && log[7] == 7, "and the log past them is unchanged");
 
     memset(memory, 0, sizeof memory);
-    expect(nilguseg_replay(&seen, 2, 2, log, logged) == answer && same_core(&seen, &core), "the replay is the same");
+    expect(nilguseg_replay(&seen, 2, 1, 2, log, logged) == answer && same_core(&seen, &core), "the replay is the same");
     seen = fresh;
     log[1]++;
-    expect(nilguseg_replay(&seen, 2, 2, log, logged) == answer && seen.r[0] == 4, "with 0x1004 logged it leaves r0 4");
+    expect(nilguseg_replay(&seen, 2, 1, 2, log, logged) == answer && seen.r[0] == 4, "with 0x1004 logged it leaves r0 4");
     seen = fresh;
-    expect(nilguseg_replay(&seen, 2, 2, log, 3) == 0x051F000000000000 && same_core(&seen, &fresh),
+    expect(nilguseg_replay(&seen, 2, 1, 2, log, 3) == 0x051F000000000000 && same_core(&seen, &fresh),
            "without the last log word: 5, 31, and the core unchanged");
-    expect(nilguseg_replay(&seen, 0, 2, log, 4) == 0x0401000000000000, "with size 0: 4, 1");
+    expect(nilguseg_replay(&seen, 0, 1, 2, log, 4) == 0x0401000000000000, "with size 0: 4, 1");
 
     core = fresh;
     memory[0] = 0x60FF;
-    expect(nilguseg_run_logged(&core, memory, 2, marks, 2, 9, log, 8, &logged) == 0x051E000000000003 && logged == 6,
+    expect(nilguseg_run_logged(&core, memory, 2, marks, 2, 1, 9, log, 8, &logged) == 0x051E000000000003 && logged == 6,
            "a loop has no room after 3 steps: 5, 30");
 }
 
@@ -157,7 +182,7 @@ static uint8_t rule_marks[WORDS];
 static uint64_t run_rule(nilguseg_core *core, const uint8_t *rights, size_t rights_len)
 {
     *core = (nilguseg_core){.sp = 0xFFFF};
-    return nilguseg_run_guarded(core, rule, WORDS, rule_marks, WORDS, rights, rights_len, STEPS);
+    return nilguseg_run_guarded(core, rule, WORDS, rule_marks, WORDS, rights, rights_len, 1, STEPS);
 }
 
 static void guarded(void)
@@ -188,15 +213,15 @@ static void guarded_and_replayed(void)
     size_t logged = 99;
 
     puts("-- and the replay with them");
-    uint64_t answer = nilguseg_run_logged_guarded(&core, rule, WORDS, rule_marks, WORDS, rights, NILGUSEG_PAGES, STEPS, log,
-                                                  8, &logged);
+    uint64_t answer = nilguseg_run_logged_guarded(&core, rule, WORDS, rule_marks, WORDS, rights, NILGUSEG_PAGES, 1, STEPS,
+                                                  log, 8, &logged);
     expect(answer == 0x0321010000000001 && logged == 4, "the run ends as without a log, and two fetches are logged");
-    expect(nilguseg_replay_guarded(&seen, WORDS, rights, NILGUSEG_PAGES, STEPS, log, logged) == answer &&
+    expect(nilguseg_replay_guarded(&seen, WORDS, rights, NILGUSEG_PAGES, 1, STEPS, log, logged) == answer &&
                same_core(&seen, &core),
            "the replay is the same");
     seen = fresh;
     rights[1] = NILGUSEG_MAY_READ;
-    expect(nilguseg_replay_guarded(&seen, WORDS, rights, NILGUSEG_PAGES, STEPS, log, logged) == 0x051F000000000000,
+    expect(nilguseg_replay_guarded(&seen, WORDS, rights, NILGUSEG_PAGES, 1, STEPS, log, logged) == 0x051F000000000000,
            "with other rights it reads on, and the log is over: 5, 31");
 }
 
@@ -221,6 +246,7 @@ int main(void)
 {
     from_words();
     from_sheet();
+    from_sheet_with_edition();
     by_number();
     logged_and_replayed();
     guarded();

@@ -1,6 +1,8 @@
 // Runs sheets and other inputs through `line_of`, and prints each line after its label.
 #![tactic(auto)]
 
+ghost use Rattle.std.specs.Prelude.{◌≤◌, length};
+
 use line::line_of;
 use std::io;
 
@@ -44,6 +46,22 @@ const SHIFT: [u32; 4] = [0x30000001, 0x30010010, 0x20004410, 0xF0000001];
 const BIT: [u32; 3] = [0x3001FFFF, 0x20004710, 0xF0000001];
 // neg r0.
 const NEGATION: [u32; 3] = [0x30008000, 0x20004800, 0xF0000001];
+
+// shr r0 by r1, eqz r0, hlt, with 0xFFFF and 16: the edition decides, of two records the later.
+const RULE: [u32; 6] = [
+    0x3000FFFF, 0x30010010, 0x20004510, 0x20005010, 0x2000FFFF, 0xF0000003,
+];
+
+const FIRST: u32 = 0x70000001;
+
+const SECOND: u32 = 0x70000002;
+
+// bitset of bit 16 of r0, then neg r1, with 0xFFFF and 0x8000, in edition 2.
+const REST: [u32; 8] = [
+    SECOND, 0x3000FFFF, 0x30018000, 0x30020010, 0x20004720, 0x20004801, 0x2000FFFF, 0xF0000003,
+];
+// dmov d0 from d1 stops in edition 2 too.
+const DECIMAL_2: [u32; 3] = [SECOND, 0x20002118, 0xF0000001];
 
 // The refusals of a sheet.
 const KIND: [u32; 2] = [0x40000000, 0xF0000000];
@@ -113,6 +131,45 @@ fn show_refusals(rt: &impl Print) -> io::Result<()> {
     show_sheet(rt, b"count first", &COUNT_FIRST)
 }
 
+// The rule after at most two records of editions.
+fn show_edition(rt: &impl Print, label: &[u8], editions: &[u32]) -> io::Result<()>
+    requires { length editions.now ≤ 2 }
+{
+    let mut sheet = [0; 8];
+    let (front, rest) = sheet.split_at_mut(editions.len());
+    front.copy_from_slice(editions);
+    rest[..6].copy_from_slice(&RULE);
+    show_sheet(rt, label, &sheet[..editions.len() + 6])
+}
+
+fn show_editions(rt: &impl Print) -> io::Result<()> {
+    show_edition(rt, b"no edition", &[])?;
+    show_edition(rt, b"edition 1", &[FIRST])?;
+    show_edition(rt, b"edition 2", &[SECOND])?;
+    show_edition(rt, b"editions 1 and 2", &[FIRST, SECOND])?;
+    show_edition(rt, b"editions 2 and 1", &[SECOND, FIRST])?;
+    show_sheet(rt, b"bit 16 and 32768", &REST)?;
+    show_sheet(rt, b"decimal in edition 2", &DECIMAL_2)?;
+    // after all but the end
+    show_sheet(
+        rt,
+        b"edition after words",
+        &[0x20004510, 0x2000FFFF, 0x30010010, SECOND, 0xF0000002],
+    )?;
+    show_edition(rt, b"edition 0", &[0x70000000])?;
+    show_edition(rt, b"edition 3", &[0x70000003])?;
+    show_edition(rt, b"edition 65535", &[0x7000FFFF])?;
+    show_edition(rt, b"editions 2 and 3", &[SECOND, 0x70000003])?;
+    show_edition(rt, b"bit 16 of an edition", &[0x70010002])?;
+    show_edition(rt, b"bit 27 of an edition", &[0x78000002])?;
+    // the bits are tested before the edition, and records in order
+    show_edition(rt, b"bit 16 of edition 3", &[0x70010003])?;
+    show_edition(rt, b"register 12, edition 3", &[0x300C0000, 0x70000003])?;
+    show_edition(rt, b"edition 3, register 12", &[0x70000003, 0x300C0000])?;
+    // the end counts words only
+    show_sheet(rt, b"edition counted", &[SECOND, 0x2000FFFF, 0xF0000002])
+}
+
 // Word records of nop.
 const NOP: u32 = 0x20000000;
 // The end record of 8,191 of them.
@@ -143,6 +200,7 @@ fn main(rt: HostRuntime) -> io::Result<()> {
     show_ends(&rt)?;
     show_faults(&rt)?;
     show_refusals(&rt)?;
+    show_editions(&rt)?;
     show_short(&rt)?;
     show_long(&rt)
 }

@@ -3,12 +3,14 @@
 use Rattle.std.specs.Prelude.{◌≡◌, ℕ, zero, suc, ◌+◌, Bool, eqb, List, [], ◌++◌, length, Option, None, Result, Ok, Err}
 use mathlib.Core.List.{append-nil, append_assoc}
 use mathlib.Core.Path.{refl, ◌∙◌}
+use Rattle.execute.specs.Edition.{edition_of}
+use Rattle.execute.specs.declared.edition.Edition.{Edition}
 use Rattle.emulator.specs.Core.{is_halted}
 use Rattle.memory.specs.Log.{read_log, reply_log, Logged}
 use Rattle.memory.specs.Memory.{Memory, read_at, write_at, read_of, write_of, Kept}
 use Rattle.memory.specs.Rights.{right_of}
 use Rattle.memory.specs.Store.{Store, memory_store}
-use Rattle.emulator.specs.Machine.{Access, none, load, store, stop, Plan, read_reply, write_reply, make_of, Turn, carry_out, on_fetch, advanced, cycle_of, refusal_of, step_of, Ran, is_stepped, next_of, run_until}
+use Rattle.emulator.specs.Machine.{Access, none, load, store, stop, Plan, read_reply, write_reply, make_of, Turn, carry_out, on_fetch, advanced, cycle_of, plain, refusal_in, step_of, Ran, is_stepped, next_of, run_until}
 use Rattle.emulator.specs.declared.core_record.Core.{Core}
 use Rattle.memory.specs.declared.log.Purpose.{Purpose}
 use Rattle.memory.specs.declared.refusal.LogEnd.{LogEnd}
@@ -117,10 +119,12 @@ module _ (rights : Option (List ℕ)) where
   pub cycle_keeps : (plan : Core → ℕ → Plan) (c : Core) (m : Memory) → Kept m (cycle_of (memory_store rights) plan c m).result.memory
   cycle_keeps plan = cycle_leads (memory_store rights) kept_leads plan []
 
-pub step_keeps : (plan : Core → ℕ → Plan) (c : Core) (m : Memory) → Kept m (step_of plan c m).memory
+pub step_keeps : (plan : Edition → Core → ℕ → Plan) (c : Core) (m : Memory) (n : ℕ) → Kept m (step_of plan c m n).memory
 unfolding step_of
-step_keeps plan c m =
-    if_elim After (eqb (refusal_of m) 0) (λ _. if_elim After (is_halted c) (λ _. kept_same m) (λ _. cycle_keeps None plan c m)) (λ _. kept_same m)
+step_keeps plan c m n =
+    if_elim After (eqb (refusal_in (plain n) m) 0)
+    (λ _. if_elim After (is_halted c) (λ _. kept_same m) (λ _. cycle_keeps None (plan (edition_of n)) c m))
+    (λ _. kept_same m)
   where
     After : Turn Memory → Type 0
     After t = Kept m t.memory

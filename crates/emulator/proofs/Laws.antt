@@ -1,12 +1,13 @@
 -- Laws of what is lent: the host tests, and what a call leaves.
-use Rattle.std.specs.Prelude.{◌≡◌, ℕ, ◌≤◌, Bool, false, eqb, List, length, Option, Ok, Err}
+use Rattle.std.specs.Prelude.{◌≡◌, ℕ, ◌≤◌, Bool, false, eqb, List, length, Ok, Err}
 use mathlib.Core.Path.{sym}
 use native.Mathlib.Omega.{arith}
 use Rattle.std.proofs.lemmas.Bool.{true≢false}
-use borrow.Author.Tests.{ltb-false, eqb-true, eq-eqb, ne_eqb}
+use borrow.Author.Tests.{ltb-false, eqb-true, eqb-false, eq-eqb, ne_eqb}
 use Rattle.memory.specs.Memory.{Memory, lent, refused_length, length_test}
 use Rattle.memory.specs.Outcome.{refusal_number}
-use Rattle.emulator.specs.Machine.{refusal_of, refusal_with}
+use Rattle.execute.specs.Edition.{refused_edition}
+use Rattle.emulator.specs.Machine.{Setting, then_test, refusal_of, refusal_in}
 use Rattle.memory.specs.Rights.{refused_bytes}
 use Rattle.memory.specs.declared.refusal.Refusal.{Refusal}
 use Rattle.memory.proofs.Laws.{length_passes, length_fails}
@@ -26,19 +27,26 @@ module _ (mem ms : List ℕ) where
     unfolding refusal_of
     test_none e = rw (length_passes (length mem) passed, eq-eqb (length ms) (length mem) e)
 
--- where no host test of a run refuses, neither 1 and 2 nor 32 does
-module _ (rights : Option (List ℕ)) (m : Memory) (ok : refusal_with rights m ≡ 0) where
-  pub with_accepted : refusal_of m ≡ 0
-  with_accepted =
-      by_test (refused_bytes rights)
-      (λ t. by_test (eqb (refusal_of m) 0) (λ z. eqb-true _ _ z) (λ n. rw (t, n) at ok))
-      (λ f. rw f at ok)
+-- where a test after others doesn't refuse, those before it don't either
+then_accepted : (before : ℕ) (refuses : Bool) (n : ℕ) → (n ≡ 0 → ⊥) → then_test before refuses n ≡ 0 → (before ≡ 0) × (refuses ≡ false)
+then_accepted before refuses n nz ok =
+    by_test refuses
+    (λ t. by_test (eqb before 0) (λ z. absurd (nz (rw (t, z) at ok))) (λ z. absurd (eqb-false _ _ z (rw (t, z) at ok))))
+    (λ f. (rw f at ok, f))
 
-  pub rights_accepted : refused_bytes rights ≡ false
-  rights_accepted =
-      by_test (refused_bytes rights)
-      (λ t. let none = rw (t, eq-eqb (refusal_of m) 0 with_accepted) at ok in absurd (omega arith))
-      (λ f. f)
+-- where no host test of a run refuses, none of 1 and 2, 32 and 34 does
+module _ (given : Setting) (m : Memory) (ok : refusal_in given m ≡ 0) where
+  pub edition_accepted : refused_edition given.edition ≡ false
+  edition_accepted = (then_accepted (then_test (refusal_of m) (refused_bytes given.rights) 32) (refused_edition given.edition) 34 (λ z. omega arith) ok).1
+
+  before_edition : then_test (refusal_of m) (refused_bytes given.rights) 32 ≡ 0
+  before_edition = (then_accepted _ (refused_edition given.edition) 34 (λ z. omega arith) ok).0
+
+  pub with_accepted : refusal_of m ≡ 0
+  with_accepted = (then_accepted _ (refused_bytes given.rights) 32 (λ z. omega arith) before_edition).0
+
+  pub rights_accepted : refused_bytes given.rights ≡ false
+  rights_accepted = (then_accepted (refusal_of m) (refused_bytes given.rights) 32 (λ z. omega arith) before_edition).1
 
 -- no host test refuses: the lists are equally long
 pub accepted_marked : (m : Memory) → refusal_of m ≡ 0 → length m.marks ≡ length m.words

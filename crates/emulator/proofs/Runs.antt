@@ -7,7 +7,7 @@ use Rattle.emulator.specs.Core.{is_halted}
 use Rattle.memory.specs.Log.{Logged, logged, end_by_log}
 use Rattle.memory.specs.Outcome.{Outcome, stepped, halted, limit, fault, ended, stop_of, log_end_number}
 use Rattle.memory.specs.Store.{Store}
-use Rattle.emulator.specs.Machine.{Plan, plan_of, Turn, turn, cycle_of, Ran, ran, next_of, run_until}
+use Rattle.emulator.specs.Machine.{Plan, Turn, turn, cycle_of, Ran, ran, next_of, run_until}
 use Rattle.emulator.specs.declared.core_record.Core.{Core}
 use Rattle.memory.specs.declared.refusal.LogEnd.{LogEnd}
 use Rattle.memory.specs.declared.stop.Stop.{Stop}
@@ -54,16 +54,16 @@ module _ {S : Type 0} (on : Store S) (plan : Core → ℕ → Plan) (over : List
     unfolding run_until
     run_turn f = rw (left, q, f)
 
-module _ {S : Type 0} (on : Store S) (over : List ℕ → Bool) (why : LogEnd) (most : ℕ) (c₀ : Core) (m₀ : S) where
+module _ {S : Type 0} (on : Store S) (plan : Core → ℕ → Plan) (over : List ℕ → Bool) (why : LogEnd) (most : ℕ) (c₀ : Core) (m₀ : S) where
   abbrev whole : Logged (Ran S)
-  whole = run_until on plan_of over why most 0 c₀ m₀ []
+  whole = run_until on plan over why most 0 c₀ m₀ []
 
   -- the loop's invariant: what is left of the run is the whole run, and the log so far is noted
   pub record Running (Noted : List ℕ → Type 0) (c : Core) (m : S) (n : ℕ) : Type 0 where
     pub within : n ≤ most
     pub log : List ℕ
     pub noted : Noted log
-    pub rest : run_until on plan_of over why (most - n) n c m log ≡ whole
+    pub rest : run_until on plan over why (most - n) n c m log ≡ whole
 
   -- what the loop leaves
   pub record Ends (Noted : List ℕ → Type 0) (r : Ran S) : Type 0 where
@@ -80,13 +80,13 @@ module _ {S : Type 0} (on : Store S) (over : List ℕ → Bool) (why : LogEnd) (
     ends e = record { run = ap (λ (x : Logged (Ran S)). x.result) e; noted = rw (ap (λ (x : Logged (Ran S)). x.log) e) at now.noted }
 
     pub end_halted : {h : Bool} → h ≡ is_halted c → h ≡ true → Ends Noted (ran halted n c m)
-    end_halted p q = ends (sym (run_halted on plan_of over why c m n now.log (most - n) (sym p ∙ q)) ∙ now.rest)
+    end_halted p q = ends (sym (run_halted on plan over why c m n now.log (most - n) (sym p ∙ q)) ∙ now.rest)
 
     module _ {h : Bool} (p : h ≡ is_halted c) (q : h ≡ false) where
       pub end_limit : n ≡ most → Ends Noted (ran limit n c m)
       end_limit e =
           let none_left : most - n ≡ 0 = omega arith in
-          ends (sym (run_limit on plan_of over why c m n now.log (sym p ∙ q)) ∙ rw none_left at now.rest)
+          ends (sym (run_limit on plan over why c m n now.log (sym p ∙ q)) ∙ rw none_left at now.rest)
 
       module _ (below : n ≡ most → ⊥) where
         under : n < most
@@ -95,20 +95,20 @@ module _ {S : Type 0} (on : Store S) (over : List ℕ → Bool) (why : LogEnd) (
         pub end_by : {e : LogEnd} → Some e ≡ end_by_log (over now.log) why → Ends Noted (ran (ended (log_end_number e)) n c m)
         end_by s =
             let b = ends_by s in
-            ends (rw b.1 (sym (run_over on plan_of over why c m n now.log most (sym p ∙ q) under b.0) ∙ now.rest))
+            ends (rw b.1 (sym (run_over on plan over why c m n now.log most (sym p ∙ q) under b.0) ∙ now.rest))
 
         -- a turn that neither halt nor the limit nor the log stops: what it leaves, and what it logged is noted too
         abbrev cycled : Logged (Turn S)
-        cycled = cycle_of on plan_of c m
+        cycled = cycle_of on plan c m
 
         abbrev then : Logged (Turn S) → Logged (Ran S)
-        then = next_of (run_until on plan_of over why (most - (n + 1)) (n + 1)) n now.log
+        then = next_of (run_until on plan over why (most - (n + 1)) (n + 1)) n now.log
 
         module _ (free : None ≡ end_by_log (over now.log) why) where
           next : (t : Turn S) → t ≡ cycled.result → then (logged t cycled.log) ≡ whole
           next t e =
               ap (λ (v : Turn S). then (logged v cycled.log)) e
-              ∙ (sym (run_turn on plan_of over why c m n now.log most (sym p ∙ q) under (goes_on why free)) ∙ now.rest)
+              ∙ (sym (run_turn on plan over why c m n now.log most (sym p ∙ q) under (goes_on why free)) ∙ now.rest)
 
           module _ (After : List ℕ → Type 0) {d : Core} {m' : S} (noted : After (now.log ++ cycled.log)) where
             pub running_step : turn stepped d m' ≡ cycled.result → Running After d m' (n + 1)

@@ -1,4 +1,4 @@
--- One step and the run (document 01), with its log and its rights (document 02, CR 2 and CR 3). What an instruction does, what an access does and
+-- One step and the run (document 01), with its log, its rights and its edition (document 02, CR 2, CR 3 and CR 5). What an instruction does, what an access does and
 -- what a run does stand apart: an access and a run see an instruction only through its plan.
 use Rattle.std.specs.Prelude.{ℕ, zero, suc, ◌+◌, Bool, true, false, List, [], ◌++◌, length, replicate, ◌==◌, nat_eq, if◌then◌else◌, Option, Some, None, Result, Ok, Err}
 use Rattle.instructions.specs.Decoding.{decode_of}
@@ -6,9 +6,11 @@ use Rattle.instructions.specs.declared.ins.Instruction.{Instruction}
 use Rattle.instructions.specs.declared.ins.encoding.Undecodable.{Undecodable}
 use Rattle.instructions.specs.declared.reg.GeneralPurposeRegister.{GeneralPurposeRegister}
 use Rattle.instructions.specs.declared.reg.SpecialPurposeRegister.TheVariants.{IP, RP, SP, EF}
+use Rattle.execute.specs.Edition.{refused_edition, edition_of}
 use Rattle.execute.specs.Execute.{execute_of}
 use Rattle.execute.specs.Registers.{registers}
 use Rattle.execute.specs.Word.{add_word, sub_word}
+use Rattle.execute.specs.declared.edition.Edition.{Edition}
 use Rattle.execute.specs.declared.effect.Effect.{Effect}
 use Rattle.execute.specs.declared.effect.Effect.TheVariants as effect
 use Rattle.emulator.specs.Core.{write_gpr, write_spr, is_halted}
@@ -72,15 +74,15 @@ pub record Plan : Type 0 where
 abbrev pub planned : Core → Access → Plan
 planned c x = record { core = c; access = x }
 
-abbrev pub decoded_plan : Core → ℕ → Result Instruction Undecodable → Plan
-decoded_plan c w (Ok i) =
-    let e = execute_of (registers c.gprs c.ip c.rp c.sp c.ef) i w in
+abbrev pub decoded_plan : Edition → Core → ℕ → Result Instruction Undecodable → Plan
+decoded_plan ed c w (Ok i) =
+    let e = execute_of ed (registers c.gprs c.ip c.rp c.sp c.ef) i w in
     planned (after_of c e) (access_of e)
-decoded_plan c w (Err e) = planned c (stop (stops.Undecodable e.word))
+decoded_plan ed c w (Err e) = planned c (stop (stops.Undecodable e.word))
 
--- decode, execute: the plan of the word w, once ip is advanced
-unfoldable pub plan_of : Core → ℕ → Plan
-plan_of c w = decoded_plan c w (decode_of w)
+-- decode, execute: the plan of the word w in an edition, once ip is advanced
+unfoldable pub plan_of : Edition → Core → ℕ → Plan
+plan_of ed c w = decoded_plan ed c w (decode_of w)
 
 -- what a reply to its access makes of it: the outcome, and the registers
 pub record Settled : Type 0 where
@@ -159,9 +161,13 @@ after_fetch more c x =
 abbrev pub advanced : Core → Core
 advanced c = write_spr c IP (add_word c.ip 1)
 
--- the host tests, in number order: 1, memory length not 1..65,536; 2, marks length differs from it; 0, no test refuses
+-- the host tests of memory and marks, in number order: 1, memory length not 1..65,536; 2, marks length differs from it; 0, neither refuses
 unfoldable pub refusal_of : Memory → ℕ
 refusal_of m = if refused_length (length m.words) then 1 else (if nat_eq (length m.marks) (length m.words) then 0 else 2)
+
+-- the code's answer to 34
+abbrev pub edition_test : ℕ → Result Edition Refusal
+edition_test n = if refused_edition n then Err Refusal.Edition else Ok (edition_of n)
 
 -- the number by the code's answer
 abbrev pub test_number : {A : Type 0} → Result A Refusal → ℕ
@@ -194,32 +200,39 @@ next_of more n l t =
     let rest = more r.core r.memory (l ++ t.log) in
     if is_stepped r.outcome then rest else logged (ran r.outcome n r.core r.memory) (l ++ t.log)
 
--- what a run is given besides its core, memory and limit: the room for its log, and the rights bytes, if any
+-- what a run is given besides its core, memory and limit: the room for its log, the rights bytes, if any, and the number of the edition
 pub record Setting : Type 0 where
   pub room : Room
   pub rights : Option (List ℕ)
+  pub edition : ℕ
 
-abbrev pub setting : Room → Option (List ℕ) → Setting
-setting room rights = record { room = room; rights = rights }
-
--- whether the log is full, once it is l
-abbrev pub full_in : Setting → List ℕ → Bool
-full_in given l = is_full given.room (length l)
+abbrev pub setting : Room → Option (List ℕ) → ℕ → Setting
+setting room rights ed = record { room = room; rights = rights; edition = ed }
 
 -- no log, with rights bytes or without; no log and no rights; and a log that is kept in a buffer
-abbrev pub unlogged : Option (List ℕ) → Setting
+abbrev pub unlogged : Option (List ℕ) → ℕ → Setting
 unlogged = setting Room.none
 
-abbrev pub plain : Setting
+abbrev pub plain : ℕ → Setting
 plain = unlogged None
 
-abbrev pub logging_in : List ℕ → Option (List ℕ) → Setting
+abbrev pub logging_in : List ℕ → Option (List ℕ) → ℕ → Setting
 logging_in buffer = setting (words (length buffer))
 
--- the host tests of a run: those of memory and marks, and then 32, if they refuse nothing (32 is asked first here, so that without rights this is
--- `refusal_of`)
-abbrev pub refusal_with : Option (List ℕ) → Memory → ℕ
-refusal_with rights m = if refused_bytes rights then (if refusal_of m == 0 then 32 else refusal_of m) else refusal_of m
+-- a host test is made where those before it refuse nothing (it is asked first here, so that where there is nothing to test, `before` is left)
+abbrev pub then_test : ℕ → Bool → ℕ → ℕ
+then_test before refuses n = if refuses then (if before == 0 then n else before) else before
+
+-- the host tests of a run: those of memory and marks, then 32, then 34
+abbrev pub refusal_with : Option (List ℕ) → ℕ → Memory → ℕ
+refusal_with rights ed m = then_test (then_test (refusal_of m) (refused_bytes rights) 32) (refused_edition ed) 34
+
+abbrev pub refusal_in : Setting → Memory → ℕ
+refusal_in given = refusal_with given.rights given.edition
+
+-- whether the log is full, once it is l
+abbrev pub full_in : Room → List ℕ → Bool
+full_in room l = is_full room (length l)
 
 -- the machine, over what stands for memory and what a word is planned to do
 module _ {S : Type 0} (on : Store S) (plan : Core → ℕ → Plan) where
@@ -237,9 +250,9 @@ module _ {S : Type 0} (on : Store S) (plan : Core → ℕ → Plan) where
       then logged (ran halted n c m) l
       else (if over l then logged (ran (ended (log_end_number why)) n c m) l else rest)
 
-  -- the run in a setting, which is over where its log is full
-  abbrev pub run_from : Setting → ℕ → ℕ → Core → S → List ℕ → Logged (Ran S)
-  run_from given = run_until (full_in given) Full
+  -- the run with so much room for its log, which is over where that is full
+  abbrev pub run_from : Room → ℕ → ℕ → Core → S → List ℕ → Logged (Ran S)
+  run_from room = run_until (full_in room) Full
 
 -- what a run leaves with a buffer lent for its log: the number of log words, and the buffer
 pub record RanLogged : Type 0 where
@@ -256,31 +269,31 @@ in_buffer buffer r = ran_logged r.result (written_of (words (length buffer)) r.l
 abbrev pub unmarked : Memory → Memory
 unmarked m = lent m.words (replicate (length m.marks) 0)
 
-module _ (plan : Core → ℕ → Plan) where
+module _ (plan : Edition → Core → ℕ → Plan) where
   -- one step: a refused one, and one of a halted core, changes nothing
-  unfoldable pub step_of : Core → Memory → Turn Memory
-  step_of c m =
-      if refusal_of m == 0
-      then (if is_halted c then turn halted c m else (cycle_of (memory_store None) plan c m).result)
-      else turn (refused (refusal_of m)) c m
+  unfoldable pub step_of : Core → Memory → ℕ → Turn Memory
+  step_of c m ed =
+      if refusal_in (plain ed) m == 0
+      then (if is_halted c then turn halted c m else (cycle_of (memory_store None) (plan (edition_of ed)) c m).result)
+      else turn (refused (refusal_in (plain ed) m)) c m
 
   -- the run in a setting: the host tests, then all marks 0, then the turns
   unfoldable pub run_in : Setting → Core → Memory → ℕ → Logged (Ran Memory)
   run_in given c m up_to =
-      if refusal_with given.rights m == 0
-      then run_from (memory_store given.rights) plan given up_to 0 c (unmarked m) []
-      else logged (ran (refused (refusal_with given.rights m)) 0 c m) []
+      if refusal_in given m == 0
+      then run_from (memory_store given.rights) (plan (edition_of given.edition)) given.room up_to 0 c (unmarked m) []
+      else logged (ran (refused (refusal_in given m)) 0 c m) []
 
   -- the run without a log, and the same with rights
-  abbrev pub run_of : Core → Memory → ℕ → Ran Memory
-  run_of c m up_to = (run_in plain c m up_to).result
+  abbrev pub run_of : Core → Memory → ℕ → ℕ → Ran Memory
+  run_of c m ed up_to = (run_in (plain ed) c m up_to).result
 
-  abbrev pub run_guarded_of : Core → Memory → List ℕ → ℕ → Ran Memory
-  run_guarded_of c m rights up_to = (run_in (unlogged (Some rights)) c m up_to).result
+  abbrev pub run_guarded_of : Core → Memory → List ℕ → ℕ → ℕ → Ran Memory
+  run_guarded_of c m rights ed up_to = (run_in (unlogged (Some rights) ed) c m up_to).result
 
   -- the run with a buffer lent for its log, and the same with rights
-  abbrev pub run_logged_of : Core → Memory → ℕ → List ℕ → RanLogged
-  run_logged_of c m up_to buffer = in_buffer buffer (run_in (logging_in buffer None) c m up_to)
+  abbrev pub run_logged_of : Core → Memory → ℕ → ℕ → List ℕ → RanLogged
+  run_logged_of c m ed up_to buffer = in_buffer buffer (run_in (logging_in buffer None ed) c m up_to)
 
-  abbrev pub run_logged_guarded_of : Core → Memory → List ℕ → ℕ → List ℕ → RanLogged
-  run_logged_guarded_of c m rights up_to buffer = in_buffer buffer (run_in (logging_in buffer (Some rights)) c m up_to)
+  abbrev pub run_logged_guarded_of : Core → Memory → List ℕ → ℕ → ℕ → List ℕ → RanLogged
+  run_logged_guarded_of c m rights ed up_to buffer = in_buffer buffer (run_in (logging_in buffer (Some rights) ed) c m up_to)

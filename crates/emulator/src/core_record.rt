@@ -1,17 +1,19 @@
 // The core record: its registers, one step, and the run.
-ghost use Rattle.std.specs.Prelude.{◌≡◌, [], length, Some, IfOk};
+ghost use Rattle.std.specs.Prelude.{◌≡◌, [], length};
 ghost use Rattle.emulator.specs.Core.{new_core, read_gpr, write_gpr, read_spr, write_spr, is_halted, is_cond_set, set_cond};
-ghost use Rattle.memory.specs.Log.{written};
+ghost use Rattle.memory.specs.Log.{Room, written};
 ghost use Rattle.memory.specs.Memory.{lent};
 ghost use Rattle.emulator.specs.Answers.{answer_of, end_of, answered_of};
 ghost use Rattle.memory.specs.Store.{memory_store};
-ghost use Rattle.emulator.specs.Machine.{plan_of, turn, refusal_of, refusal_with, test_number, step_of, unlogged, logging_in, run_from, ran, ran_logged, in_buffer, run_of, run_guarded_of, run_logged_of, run_logged_guarded_of};
+ghost use Rattle.emulator.specs.Machine.{plan_of, turn, step_of, run_from, ran, ran_logged, in_buffer, run_of, run_guarded_of, run_logged_of, run_logged_guarded_of};
 ghost use Rattle.memory.specs.Rights.{bytes_of};
 ghost use Rattle.emulator.specs.declared.cycle.End.TheVariants as ends;
 
+use crate::check::{check, check_guarded};
 use crate::cycle::{End, turns};
+use execute::Edition;
 use instructions::{GPR, Register, SPR};
-use memory::{LoggedMemory, MarkedMemory, Refusal, Rights, Stop, check_length, check_rights};
+use memory::{LoggedMemory, MarkedMemory, Refusal, Rights, Stop};
 
 #[derive(Clone, Copy, Debug, PartialEq, Eq)]
 pub struct Core {
@@ -52,30 +54,6 @@ pub struct LoggedRun {
     pub logged: usize,
 }
 
-// The host tests, in number order.
-fn check(memory: &[u16], marks: &[u8]) -> Result<(), Refusal>
-    ensures { test_number result ≡ refusal_of (lent memory.now marks.now) }
-{
-    check_length(memory.len())?;
-    if marks.len() != memory.len() {
-        return Err(Refusal::MarksLength);
-    }
-    Ok(())
-}
-
-// The same where rights are given, which are tested last.
-fn check_guarded<'a>(
-    memory: &[u16],
-    marks: &[u8],
-    rights: &'a [u8],
-) -> Result<&'a [u8; 256], Refusal>
-    ensures number { test_number result ≡ refusal_with (Some rights.now) (lent memory.now marks.now) }
-    ensures bytes { IfOk result (λ b. b.now ≡ rights.now) }
-{
-    check(memory, marks)?;
-    check_rights(rights)
-}
-
 // A call that runs nothing: the core as it was given, and why.
 pub fn no_run(core: Core, end: End) -> Run
     ensures { result ≡ record { core = core; steps = 0; end = end } }
@@ -104,12 +82,13 @@ fn marked_turns(
     marks: &mut [u8],
     rights: Rights<'_>,
     limit: u32,
+    edition: Edition,
 ) -> Run
     requires { length marks.old ≡ length words.old }
-    ensures { ran (end_of result.end) result.steps result.core (lent words.new marks.new) ≡ (run_from (memory_store (bytes_of rights.entry)) plan_of (unlogged (bytes_of rights.entry)) limit 0 core (lent words.old marks.old) []).result }
+    ensures { ran (end_of result.end) result.steps result.core (lent words.new marks.new) ≡ (run_from (memory_store (bytes_of rights.entry)) (plan_of edition) Room.none limit 0 core (lent words.old marks.old) []).result }
 {
     let mut lent = MarkedMemory { words, marks };
-    turns(core, &mut lent, rights, limit)
+    turns(core, &mut lent, rights, limit, edition)
 }
 
 // The turns of a run with a log.
@@ -119,10 +98,11 @@ fn logged_turns(
     marks: &mut [u8],
     rights: Rights<'_>,
     limit: u32,
+    edition: Edition,
     log: &mut [u32],
 ) -> LoggedRun
     requires { length marks.old ≡ length words.old }
-    ensures { ran_logged (ran (end_of result.run.end) result.run.steps result.run.core (lent words.new marks.new)) (written result.logged log.new) ≡ in_buffer log.old (run_from (memory_store (bytes_of rights.entry)) plan_of (logging_in log.old (bytes_of rights.entry)) limit 0 core (lent words.old marks.old) []) }
+    ensures { ran_logged (ran (end_of result.run.end) result.run.steps result.run.core (lent words.new marks.new)) (written result.logged log.new) ≡ in_buffer log.old (run_from (memory_store (bytes_of rights.entry)) (plan_of edition) (Room.words (length log.old)) limit 0 core (lent words.old marks.old) []) }
 {
     let mut lent = LoggedMemory {
         words,
@@ -130,7 +110,7 @@ fn logged_turns(
         log,
         logged: 0,
     };
-    let run = turns(core, &mut lent, rights, limit);
+    let run = turns(core, &mut lent, rights, limit, edition);
     LoggedRun {
         run,
         logged: lent.logged,
@@ -218,16 +198,19 @@ impl Core {
 
     // One step: it adds to the marks without clearing them. Where a host test refuses, and where the core is halted, nothing changes.
     #[tactic(auto, using(crate::proofs::Laws::accepted))]
-    pub fn step(self, memory: &mut [u16], marks: &mut [u8]) -> Step
-        ensures { turn (answer_of result.answer) result.core (lent memory.new marks.new) ≡ step_of plan_of self (lent memory.old marks.old) }
+    pub fn step(self, memory: &mut [u16], marks: &mut [u8], edition: u16) -> Step
+        ensures { turn (answer_of result.answer) result.core (lent memory.new marks.new) ≡ step_of plan_of self (lent memory.old marks.old) edition }
     {
-        if let Err(refusal) = check(memory, marks) {
-            return Step {
-                core: self,
-                answer: Answer::Refused(refusal),
-            };
-        }
-        let run = marked_turns(self, memory, marks, None, 1);
+        let edition = match check(memory, marks, edition) {
+            Ok(edition) => edition,
+            Err(refusal) => {
+                return Step {
+                    core: self,
+                    answer: Answer::Refused(refusal),
+                };
+            }
+        };
+        let run = marked_turns(self, memory, marks, None, 1, edition);
         Step {
             core: run.core,
             answer: answered(run.steps, run.end),
@@ -236,14 +219,15 @@ impl Core {
 
     // Runs the core: all marks are set to 0, then steps are made until it halts, the limit is reached, or a step faults.
     #[tactic(auto, using(crate::proofs::Laws::accepted))]
-    pub fn run(self, memory: &mut [u16], marks: &mut [u8], limit: u32) -> Run
-        ensures { ran (end_of result.end) result.steps result.core (lent memory.new marks.new) ≡ run_of plan_of self (lent memory.old marks.old) limit }
+    pub fn run(self, memory: &mut [u16], marks: &mut [u8], edition: u16, limit: u32) -> Run
+        ensures { ran (end_of result.end) result.steps result.core (lent memory.new marks.new) ≡ run_of plan_of self (lent memory.old marks.old) edition limit }
     {
-        if let Err(refusal) = check(memory, marks) {
-            return no_run(self, End::Refused(refusal));
-        }
+        let edition = match check(memory, marks, edition) {
+            Ok(edition) => edition,
+            Err(refusal) => return no_run(self, End::Refused(refusal)),
+        };
         marks.fill(0);
-        marked_turns(self, memory, marks, None, limit)
+        marked_turns(self, memory, marks, None, limit, edition)
     }
 
     // The run with a log of its reads, which is written to the front of the lent one. It also ends where fewer than four words are free.
@@ -252,29 +236,38 @@ impl Core {
         self,
         memory: &mut [u16],
         marks: &mut [u8],
+        edition: u16,
         limit: u32,
         log: &mut [u32],
     ) -> LoggedRun
-        ensures { ran_logged (ran (end_of result.run.end) result.run.steps result.run.core (lent memory.new marks.new)) (written result.logged log.new) ≡ run_logged_of plan_of self (lent memory.old marks.old) limit log.old }
+        ensures { ran_logged (ran (end_of result.run.end) result.run.steps result.run.core (lent memory.new marks.new)) (written result.logged log.new) ≡ run_logged_of plan_of self (lent memory.old marks.old) edition limit log.old }
     {
-        if let Err(refusal) = check(memory, marks) {
-            return no_logged_run(self, refusal);
-        }
+        let edition = match check(memory, marks, edition) {
+            Ok(edition) => edition,
+            Err(refusal) => return no_logged_run(self, refusal),
+        };
         marks.fill(0);
-        logged_turns(self, memory, marks, None, limit, log)
+        logged_turns(self, memory, marks, None, limit, edition, log)
     }
 
     // The run with rights over memory's pages: an access that the rights don't allow is a fault.
     #[tactic(auto, using(crate::proofs::Laws::accepted))]
-    pub fn run_guarded(self, memory: &mut [u16], marks: &mut [u8], rights: &[u8], limit: u32) -> Run
-        ensures { ran (end_of result.end) result.steps result.core (lent memory.new marks.new) ≡ run_guarded_of plan_of self (lent memory.old marks.old) rights.now limit }
+    pub fn run_guarded(
+        self,
+        memory: &mut [u16],
+        marks: &mut [u8],
+        rights: &[u8],
+        edition: u16,
+        limit: u32,
+    ) -> Run
+        ensures { ran (end_of result.end) result.steps result.core (lent memory.new marks.new) ≡ run_guarded_of plan_of self (lent memory.old marks.old) rights.now edition limit }
     {
-        let rights = match check_guarded(memory, marks, rights) {
-            Ok(rights) => rights,
+        let (rights, edition) = match check_guarded(memory, marks, rights, edition) {
+            Ok(accepted) => accepted,
             Err(refusal) => return no_run(self, End::Refused(refusal)),
         };
         marks.fill(0);
-        marked_turns(self, memory, marks, Some(rights), limit)
+        marked_turns(self, memory, marks, Some(rights), limit, edition)
     }
 
     // The run with rights and with a log.
@@ -284,16 +277,17 @@ impl Core {
         memory: &mut [u16],
         marks: &mut [u8],
         rights: &[u8],
+        edition: u16,
         limit: u32,
         log: &mut [u32],
     ) -> LoggedRun
-        ensures { ran_logged (ran (end_of result.run.end) result.run.steps result.run.core (lent memory.new marks.new)) (written result.logged log.new) ≡ run_logged_guarded_of plan_of self (lent memory.old marks.old) rights.now limit log.old }
+        ensures { ran_logged (ran (end_of result.run.end) result.run.steps result.run.core (lent memory.new marks.new)) (written result.logged log.new) ≡ run_logged_guarded_of plan_of self (lent memory.old marks.old) rights.now edition limit log.old }
     {
-        let rights = match check_guarded(memory, marks, rights) {
-            Ok(rights) => rights,
+        let (rights, edition) = match check_guarded(memory, marks, rights, edition) {
+            Ok(accepted) => accepted,
             Err(refusal) => return no_logged_run(self, refusal),
         };
         marks.fill(0);
-        logged_turns(self, memory, marks, Some(rights), limit, log)
+        logged_turns(self, memory, marks, Some(rights), limit, edition, log)
     }
 }

@@ -1,12 +1,11 @@
 // One cycle and the loop of cycles, on any store. The loop has the core in a variable of its own and lends it to each cycle.
 ghost use Rattle.std.specs.Prelude.{◌≡◌, ◌++◌, [], List, ℕ};
-ghost use Rattle.memory.specs.Log.{logged};
 ghost use Rattle.emulator.specs.Answers.{progress_of, end_of};
 ghost use Rattle.memory.specs.Rights.{bytes_of};
 ghost use Rattle.emulator.specs.Machine.{access_of, after_of, planned, plan_of, turn, carry_out, cycle_of, ran, run_until};
 
 use crate::core_record::{Core, Run};
-use execute::{Effect, execute};
+use execute::{Edition, Effect, execute};
 use instructions::{Instruction, Register};
 use memory::{LogEnd, Purpose, Refusal, Rights, Stop, Store};
 
@@ -66,22 +65,35 @@ fn obey<S: Store>(
 }
 
 // Fetches at ip, advances ip, and obeys the word.
-fn cycle<S: Store>(core: &mut Core, store: &mut S, rights: Rights<'_>) -> Result<(), Stop>
-    ensures turn { turn (progress_of result) core.new (S.seen store.new) ≡ (cycle_of (S.store (bytes_of rights.entry)) plan_of core.old (S.seen store.old)).result }
-    ensures noted { (start : S) (l : List ℕ) → S.Noted start store.old l → S.Noted start store.new (l ++ (cycle_of (S.store (bytes_of rights.entry)) plan_of core.old (S.seen store.old)).log) }
+fn cycle<S: Store>(
+    core: &mut Core,
+    store: &mut S,
+    rights: Rights<'_>,
+    edition: Edition,
+) -> Result<(), Stop>
+    ensures turn { turn (progress_of result) core.new (S.seen store.new) ≡ (cycle_of (S.store (bytes_of rights.entry)) (plan_of edition) core.old (S.seen store.old)).result }
+    ensures noted { (start : S) (l : List ℕ) → S.Noted start store.old l → S.Noted start store.new (l ++ (cycle_of (S.store (bytes_of rights.entry)) (plan_of edition) core.old (S.seen store.old)).log) }
 {
     let word = store.read(rights, Purpose::Fetch, core.ip)?;
     core.ip = execute::add(core.ip, 1);
     let ins = Instruction::decode(word)?;
-    let effect = execute(ins, word, &core.gprs, core.ip, core.rp, core.sp, core.ef);
+    let effect = execute(
+        ins, word, edition, &core.gprs, core.ip, core.rp, core.sp, core.ef,
+    );
     obey(core, effect, store, rights)
 }
 
 // Cycles up to the limit: each turn tests halt first, then the limit, then the log. A cycle that faults isn't counted. (A `for` up to the limit would test
 // the limit before halt.)
-pub fn turns<S: Store>(mut core: Core, store: &mut S, rights: Rights<'_>, limit: u32) -> Run
-    ensures run { ran (end_of result.end) result.steps result.core (S.seen store.new) ≡ (run_until (S.store (bytes_of rights.entry)) plan_of (S.over store.old) S.why limit 0 core (S.seen store.old) []).result }
-    ensures noted { S.Noted store.old store.new (run_until (S.store (bytes_of rights.entry)) plan_of (S.over store.old) S.why limit 0 core (S.seen store.old) []).log }
+pub fn turns<S: Store>(
+    mut core: Core,
+    store: &mut S,
+    rights: Rights<'_>,
+    limit: u32,
+    edition: Edition,
+) -> Run
+    ensures run { ran (end_of result.end) result.steps result.core (S.seen store.new) ≡ (run_until (S.store (bytes_of rights.entry)) (plan_of edition) (S.over store.old) S.why limit 0 core (S.seen store.old) []).result }
+    ensures noted { S.Noted store.old store.new (run_until (S.store (bytes_of rights.entry)) (plan_of edition) (S.over store.old) S.why limit 0 core (S.seen store.old) []).log }
 {
     let mut steps: u32 = 0;
     let end = loop {
@@ -94,7 +106,7 @@ pub fn turns<S: Store>(mut core: Core, store: &mut S, rights: Rights<'_>, limit:
         if let Some(end) = store.log_end() {
             break End::Log(end);
         }
-        if let Err(stop) = cycle(&mut core, store, rights) {
+        if let Err(stop) = cycle(&mut core, store, rights, edition) {
             break End::Fault(stop);
         }
         steps += 1;

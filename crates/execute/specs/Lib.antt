@@ -1,3 +1,4 @@
+pub mod Edition
 pub mod Execute
 pub mod Flags
 pub mod Registers

@@ -4,6 +4,7 @@ ghost use Rattle.std.specs.Prelude.{◌≡◌};
 ghost use Rattle.execute.specs.Execute.{execute_of, jumped_of, to_spr};
 ghost use Rattle.execute.specs.Registers.{registers, gpr_of, spr_of};
 
+use crate::edition::Edition;
 use crate::{flags, word};
 use instructions::{GPR, Instruction, Register, SPR};
 
@@ -34,24 +35,25 @@ pub enum Effect {
     },
     // A decimal instruction: its word.
     Decimal(u16),
-    // A shift or a bit index of 16 or more: the amount.
+    // A shift or a bit index of 16 or more, in the first edition: the amount.
     Amount(u16),
-    // The negation of 0x8000: that word.
+    // The negation of 0x8000, in the first edition: that word.
     Negation(u16),
 }
 
-// The effect of the instruction `ins`, whose word is `word`, on a core whose ip is already advanced.
+// The effect of the instruction `ins`, whose word is `word`, in an edition, on a core whose ip is already advanced.
 #[tactic(auto, unfolding(crate::specs::Execute::execute_of))]
 pub fn execute(
     ins: Instruction,
     word: u16,
+    edition: Edition,
     gprs: &[u16; 8],
     ip: u16,
     rp: u16,
     sp: u16,
     ef: u16,
 ) -> Effect
-    ensures { result ≡ execute_of (registers gprs.now ip rp sp ef) ins word }
+    ensures { result ≡ execute_of edition (registers gprs.now ip rp sp ef) ins word }
 {
     match ins {
         // Core
@@ -130,16 +132,20 @@ pub fn execute(
             let amount = read_gpr(gprs, val);
             if amount < 16 {
                 Effect::Gpr(reg, read_gpr(gprs, reg) << amount)
-            } else {
+            } else if edition == Edition::First {
                 Effect::Amount(amount)
+            } else {
+                Effect::Gpr(reg, 0)
             }
         }
         Instruction::Shr { reg, val } => {
             let amount = read_gpr(gprs, val);
             if amount < 16 {
                 Effect::Gpr(reg, read_gpr(gprs, reg) >> amount)
-            } else {
+            } else if edition == Edition::First {
                 Effect::Amount(amount)
+            } else {
+                Effect::Gpr(reg, 0)
             }
         }
         Instruction::Bitset { reg, idx } => {
@@ -149,15 +155,17 @@ pub fn execute(
                     reg,
                     word::put_bit(read_gpr(gprs, reg), index, flags::is_cond_set(ef)),
                 )
-            } else {
+            } else if edition == Edition::First {
                 Effect::Amount(index)
+            } else {
+                Effect::None
             }
         }
 
         // General-Purpose Arithmetic
         Instruction::Neg { reg } => {
             let value = read_gpr(gprs, reg);
-            if value == 0x8000 {
+            if value == 0x8000 && edition == Edition::First {
                 Effect::Negation(value)
             } else {
                 Effect::Gpr(reg, word::sub(0, value))

@@ -1,1 +1,2 @@
+pub mod Editions
 pub mod Words

@@ -12,6 +12,7 @@ use Rattle.instructions.specs.Decoding.{operands_of, decode_of}
 use Rattle.instructions.specs.declared.ins.Instruction.{Instruction}
 use Rattle.instructions.specs.declared.ins.encoding.Undecodable.{Undecodable}
 use Rattle.execute.specs.Execute.{execute_of}
+use Rattle.execute.specs.declared.edition.Edition.{Edition}
 use Rattle.execute.specs.Registers.{Registers}
 use Rattle.execute.specs.Word.{with_bit, bit}
 use Rattle.execute.proofs.Laws.{or_bit, and_bit_16}
@@ -38,16 +39,16 @@ with_bit_lem k false {a} ha hk = rw (← and_bit_16 a k ha hk) (anded a _ ha (om
 ruleset word_steps = (anded, ored, xored, with_bit_lem, arith)
 
 -- the claim, of what a word decodes to
-abbrev Fits : Registers → ℕ → Result Instruction Undecodable → Type 0
-Fits r w (Ok i) = EffectFits (execute_of r i w)
-Fits r w (Err e) = Unit {0}
+abbrev Fits : Edition → Registers → ℕ → Result Instruction Undecodable → Type 0
+Fits ed r w (Ok i) = EffectFits (execute_of ed r i w)
+Fits ed r w (Err e) = Unit {0}
 
 -- each opcode with the bytes hi and lo; of a word, lo is below 256
-row : (r : Registers) → RegistersFit r → (w hi lo : ℕ) → lo < 256 → (o : InstructionOpcode) → Fits r w (operands_of o w hi lo)
+row : (ed : Edition) (r : Registers) → RegistersFit r → (w hi lo : ℕ) → lo < 256 → (o : InstructionOpcode) → Fits ed r w (operands_of o w hi lo)
 unfolding execute_of
-row r fit w hi lo byte Nop = tt
-row r fit w hi lo byte o = search word_steps
+row ed r fit w hi lo byte Nop = tt
+row ed r fit w hi lo byte o = search word_steps
 
 pub words : Words
 unfolding decode_of
-words r w i fit e = subst (Fits r w) e (row r fit w (w / 256) (w % 256) (omega arith) (opcode_of (w / 256) (w % 256)))
+words ed r w i fit e = subst (Fits ed r w) e (row ed r fit w (w / 256) (w % 256) (omega arith) (opcode_of (w / 256) (w % 256)))

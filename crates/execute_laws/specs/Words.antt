@@ -1,9 +1,10 @@
--- Words are 16-bit (document 01): an instruction that sees 16-bit words leaves 16-bit words.
+-- Words are 16-bit (document 01): an instruction that sees 16-bit words leaves 16-bit words, in either edition.
 use Rattle.std.specs.Prelude.{ℕ, ◌<◌, ◌≡◌, get_or, Ok}
 use Rattle.instructions.specs.Decoding.{decode_of}
 use Rattle.instructions.specs.declared.ins.Instruction.{Instruction}
 use Rattle.execute.specs.Execute.{execute_of}
 use Rattle.execute.specs.Registers.{Registers}
+use Rattle.execute.specs.declared.edition.Edition.{Edition}
 use Rattle.execute.specs.declared.effect.Effect.{Effect}
 use Rattle.execute.specs.declared.effect.Effect.TheVariants.{None, Gpr, Ip, Rp, Sp, Ef, Call, Load, Store, Decimal, Amount, Negation}
 
@@ -35,4 +36,4 @@ EffectFits (Negation v) = Unit {0}
 
 -- w is any number that decodes: an instruction that none decodes to, as putl of 65,536, may leave more than a word
 abbrev pub Words : Type 0
-Words = (r : Registers) (w : ℕ) (i : Instruction) → RegistersFit r → decode_of w ≡ Ok i → EffectFits (execute_of r i w)
+Words = (ed : Edition) (r : Registers) (w : ℕ) (i : Instruction) → RegistersFit r → decode_of w ≡ Ok i → EffectFits (execute_of ed r i w)

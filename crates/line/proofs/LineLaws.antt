@@ -27,8 +27,8 @@ fields_next words i l =
     rw (add-one i, take-suc words i 0 l, fields_append (take i words) (get_or words i 0 ∷ []), append-nil (field (get_or words i 0)))
 
 -- the line of a sheet that is loaded and run
-pub sheet_ran : (sheet : List ℕ) {x : Result (Unit {0}) SheetRefusal} {u : Unit {0}} {c c' : Core} {words : List ℕ} {o : Outcome} {steps : ℕ} {m : Memory}
-    → left x c words ≡ load_sheet_of sheet (replicate 32768 0) → x ≡ Ok u → ran o steps c' m ≡ run_of plan_of c (lent words (replicate 32768 0)) 1000000
+pub sheet_ran : (sheet : List ℕ) {x : Result (Unit {0}) SheetRefusal} {u : Unit {0}} {c c' : Core} {ed : ℕ} {words : List ℕ} {o : Outcome} {steps : ℕ} {m : Memory}
+    → left x c ed words ≡ load_sheet_of sheet (replicate 32768 0) → x ≡ Ok u → ran o steps c' m ≡ run_of plan_of c (lent words (replicate 32768 0)) ed 1000000
     → end_line o steps c' ≡ sheet_line sheet
 unfolding sheet_line
 sheet_ran sheet loads done runs = rw (← loads, done, ← runs)

@@ -1,4 +1,4 @@
--- The line that `berth` prints (document 01, the program).
+-- The line that `berth` prints (document 01, the program, and document 02, CR 5).
 use Rattle.std.specs.Prelude.{ℕ, Result, Ok, Err, List, [], ◌∷◌, ◌++◌, replicate}
 use Rattle.emulator.specs.declared.core_record.Core.{Core}
 use Rattle.memory.specs.Memory.{Memory, lent}
@@ -62,13 +62,13 @@ abbrev pub run_line : Result Run SheetRefusal → List ℕ
 run_line (Ok r) = end_line (end_of r.end) r.steps r.core
 run_line (Err r) = refused_line (sheet_refusal_number r)
 
--- a sheet loaded: its run, with limit 1,000,000
-abbrev pub loaded_line : Result (Unit {0}) SheetRefusal → Core → List ℕ → List ℕ
-loaded_line (Ok u) c words = ran_line (run_of plan_of c (lent words (replicate 32768 0)) 1000000)
-loaded_line (Err r) c words = refused_line (sheet_refusal_number r)
+-- a sheet loaded: its run in its edition, with limit 1,000,000
+abbrev pub loaded_line : Result (Unit {0}) SheetRefusal → Core → ℕ → List ℕ → List ℕ
+loaded_line (Ok u) c ed words = ran_line (run_of plan_of c (lent words (replicate 32768 0)) ed 1000000)
+loaded_line (Err r) c ed words = refused_line (sheet_refusal_number r)
 
 abbrev pub left_line : Left → List ℕ
-left_line l = loaded_line l.answer l.core l.memory
+left_line l = loaded_line l.answer l.core l.edition l.memory
 
 -- a sheet: it is loaded into 32,768 words
 unfoldable pub sheet_line : List ℕ → List ℕ

@@ -73,7 +73,10 @@ fn run_sheet(sheet: &[u32]) -> Result<Run, SheetRefusal>
     let mut marks = [0u8; 32768];
     let load = load_sheet(sheet, &mut memory);
     load.answer?;
-    Ok(load.core.run(&mut memory, &mut marks, 1000000))
+    Ok(
+        load.core
+            .run(&mut memory, &mut marks, load.edition, 1000000),
+    )
 }
 
 // The same with the sheet that the input is.

@@ -18,7 +18,7 @@ const ROOM: usize = 20;
 fn show_run(rt: &impl Print, log: &mut [u32]) -> io::Result<()> {
     let mut memory = RULE;
     let mut marks = [0; RULE.len()];
-    let LoggedRun { run, logged } = Core::new().run_logged(&mut memory, &mut marks, LIMIT, log);
+    let LoggedRun { run, logged } = Core::new().run_logged(&mut memory, &mut marks, 1, LIMIT, log);
     print!(rt; "{} {} {logged}:", Shown(run.end), run.steps)?;
     for word in log {
         print!(rt; " {word}")?;
@@ -28,7 +28,7 @@ fn show_run(rt: &impl Print, log: &mut [u32]) -> io::Result<()> {
 
 // A replay: its end and steps, and the registers that the rule loads.
 fn show_replay(rt: &impl Print, log: &[u32]) -> io::Result<()> {
-    let Run { core, steps, end } = replay(Core::new(), RULE.len(), LIMIT, log);
+    let Run { core, steps, end } = replay(Core::new(), RULE.len(), 1, LIMIT, log);
     let [_, r1, r2, ..] = core.gprs;
     println!(rt; "{} {steps} {r1} {r2}", Shown(end))
 }

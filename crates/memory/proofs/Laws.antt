@@ -34,6 +34,7 @@ pub refuses : (r : Refusal) {n : ℕ} → refusal_number r ≡ n → n ≡ 0 →
 refuses Refusal.MemoryLength e z = omega arith
 refuses Refusal.MarksLength e z = omega arith
 refuses Refusal.Rights e z = omega arith
+refuses Refusal.Edition e z = omega arith
 
 -- host test 32
 module _ (bytes : List ℕ) where

@@ -1,4 +1,4 @@
--- How a step and a run come out, by document 01's numbers (The run; Stops).
+-- How a step and a run come out, by document 01's numbers (The run; Stops), and document 02's (CR 2, CR 3 and CR 5).
 use Rattle.std.specs.Prelude.{ℕ}
 use Rattle.instructions.specs.Decoding.{undecodable}
 use Rattle.memory.specs.declared.refusal.Refusal.{Refusal}
@@ -30,6 +30,7 @@ abbrev pub refusal_number : Refusal → ℕ
 refusal_number Refusal.MemoryLength = 1
 refusal_number Refusal.MarksLength = 2
 refusal_number Refusal.Rights = 32
+refusal_number Refusal.Edition = 34
 
 -- the ends by the log
 abbrev pub log_end_number : LogEnd → ℕ

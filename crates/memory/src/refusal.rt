@@ -13,6 +13,8 @@ pub enum Refusal {
     MarksLength = 2,
     // The rights aren't 256 bytes of at most 7.
     Rights = 32,
+    // The edition is neither 1 nor 2.
+    Edition = 34,
 }
 
 impl Refusal {

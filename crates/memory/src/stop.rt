@@ -16,9 +16,9 @@ pub enum Stop {
     NoRight(u16),
     // The word of a decimal instruction.
     Decimal(u16),
-    // The amount of a shift, or the index of a bit, of 16 or more.
+    // The amount of a shift, or the index of a bit, of 16 or more, in the first edition.
     Amount(u16),
-    // The word that has no negation, 0x8000.
+    // The word that has no negation in the first edition, 0x8000.
     Negation(u16),
 }
 

@@ -1,5 +1,5 @@
 -- What a host sees of a call: a number, and lists of numbers that it lent (document 01, Stops and Records, and
--- document 02, CR 1, in the layout of the header).
+-- document 02, CR 1 and CR 5, in the layout of the header).
 use Rattle.std.specs.Prelude.{ℕ, Result, Ok, Err, ◌+◌, ◌*◌, ◌^◌, List, [], ◌∷◌, ◌++◌, take, slice_index}
 use Rattle.emulator.specs.declared.core_record.Core.{Core}
 use Rattle.emulator.specs.Core.{core_of}
@@ -68,7 +68,7 @@ abbrev pub run_call : Ran Memory → Call
 run_call t = ended_call t.end t.steps t.core (t.memory.words ∷ t.memory.marks ∷ [])
 
 abbrev pub load_call : Left → Call
-load_call l = call (loaded_number l.answer) (words_of l.core ∷ l.memory ∷ [])
+load_call l = call (loaded_number l.answer) (words_of l.core ∷ (l.edition ∷ []) ∷ l.memory ∷ [])
 
 abbrev pub write_call : Wrote → Call
 write_call w = call (written_number w.answer) (w.buffer ∷ [])

@@ -33,10 +33,11 @@ pub fn put_run(run: Run, core: &mut [u16; 12]) -> u64
     end_number(run.end) as u64 * 0x100000000 + run.steps as u64
 }
 
-// Puts back the core that a load leaves, and answers what it comes to.
-pub fn put_load(load: Load, core: &mut [u16; 12]) -> u32
-    ensures { call result (core.new ∷ []) ≡ call (loaded_number load.answer) (words_of load.core ∷ []) }
+// Puts back the core and the edition that a load leaves, and answers what it comes to.
+pub fn put_load(load: Load, core: &mut [u16; 12], edition: &mut u16) -> u32
+    ensures { call result (core.new ∷ (edition.new ∷ []) ∷ []) ≡ call (loaded_number load.answer) (words_of load.core ∷ (load.edition ∷ []) ∷ []) }
 {
     put_core(load.core, core);
+    *edition = load.edition;
     loaded_number(load.answer)
 }

@@ -16,10 +16,15 @@ use sheet::{load_sheet, load_words, write_sheet};
 
 // One step of the core.
 #[unsafe(no_mangle)]
-pub extern "C" fn nilguseg_step(core: &mut [u16; 12], memory: &mut [u16], marks: &mut [u8]) -> u32
-    ensures { call result (core.new ∷ memory.new ∷ marks.new ∷ []) ≡ step_call (step_of plan_of (core_from core.old) (lent memory.old marks.old)) }
+pub extern "C" fn nilguseg_step(
+    core: &mut [u16; 12],
+    memory: &mut [u16],
+    marks: &mut [u8],
+    edition: u16,
+) -> u32
+    ensures { call result (core.new ∷ memory.new ∷ marks.new ∷ []) ≡ step_call (step_of plan_of (core_from core.old) (lent memory.old marks.old) edition) }
 {
-    put_step(core_of(*core).step(memory, marks), core)
+    put_step(core_of(*core).step(memory, marks, edition), core)
 }
 
 // A run of the core, of at most `limit` steps.
@@ -28,43 +33,51 @@ pub extern "C" fn nilguseg_run(
     core: &mut [u16; 12],
     memory: &mut [u16],
     marks: &mut [u8],
+    edition: u16,
     limit: u32,
 ) -> u64
-    ensures { call result (core.new ∷ memory.new ∷ marks.new ∷ []) ≡ run_call (run_of plan_of (core_from core.old) (lent memory.old marks.old) limit) }
+    ensures { call result (core.new ∷ memory.new ∷ marks.new ∷ []) ≡ run_call (run_of plan_of (core_from core.old) (lent memory.old marks.old) edition limit) }
 {
-    put_run(core_of(*core).run(memory, marks, limit), core)
+    put_run(core_of(*core).run(memory, marks, edition, limit), core)
 }
 
 // Loads a plain word list.
 #[unsafe(no_mangle)]
 pub extern "C" fn nilguseg_load_words(
     core: &mut [u16; 12],
+    edition: &mut u16,
     words: &[u16],
     memory: &mut [u16],
 ) -> u32
-    ensures { call result (core.new ∷ memory.new ∷ []) ≡ load_call (load_words_of words.now memory.old) }
+    ensures { call result (core.new ∷ (edition.new ∷ []) ∷ memory.new ∷ []) ≡ load_call (load_words_of words.now memory.old) }
 {
-    put_load(load_words(words, memory), core)
+    put_load(load_words(words, memory), core, edition)
 }
 
 // Loads a rule sheet.
 #[unsafe(no_mangle)]
 pub extern "C" fn nilguseg_load_sheet(
     core: &mut [u16; 12],
+    edition: &mut u16,
     sheet: &[u32],
     memory: &mut [u16],
 ) -> u32
-    ensures { call result (core.new ∷ memory.new ∷ []) ≡ load_call (load_sheet_of sheet.now memory.old) }
+    ensures { call result (core.new ∷ (edition.new ∷ []) ∷ memory.new ∷ []) ≡ load_call (load_sheet_of sheet.now memory.old) }
 {
-    put_load(load_sheet(sheet, memory), core)
+    put_load(load_sheet(sheet, memory), core, edition)
 }
 
-// Writes the rule sheet of a core and memory.
+// Writes the rule sheet of a core, an edition and memory.
 #[unsafe(no_mangle)]
-pub extern "C" fn nilguseg_write_sheet(core: &[u16; 12], memory: &[u16], sheet: &mut [u32]) -> u64
-    ensures { call result (sheet.new ∷ []) ≡ write_call (write_sheet_of (core_from core.now) memory.now sheet.old) }
+pub extern "C" fn nilguseg_write_sheet(
+    core: &[u16; 12],
+    edition: u16,
+    memory: &[u16],
+    sheet: &mut [u32],
+) -> u64
+    ensures { call result (sheet.new ∷ []) ≡ write_call (write_sheet_of (core_from core.now) edition memory.now sheet.old) }
 {
-    written_number(write_sheet(core_of(*core), memory, sheet))
+    written_number(write_sheet(core_of(*core), edition, memory, sheet))
 }
 
 // Which of two word lists comes first.

@@ -16,10 +16,11 @@ pub extern "C" fn nilguseg_run_guarded(
     memory: &mut [u16],
     marks: &mut [u8],
     rights: &[u8],
+    edition: u16,
     limit: u32,
 ) -> u64
-    ensures { call result (core.new ∷ memory.new ∷ marks.new ∷ []) ≡ run_call (run_guarded_of plan_of (core_from core.old) (lent memory.old marks.old) rights.now limit) }
+    ensures { call result (core.new ∷ memory.new ∷ marks.new ∷ []) ≡ run_call (run_guarded_of plan_of (core_from core.old) (lent memory.old marks.old) rights.now edition limit) }
 {
-    let run = core_of(*core).run_guarded(memory, marks, rights, limit);
+    let run = core_of(*core).run_guarded(memory, marks, rights, edition, limit);
     put_run(run, core)
 }

@@ -26,13 +26,14 @@ pub extern "C" fn nilguseg_run_logged(
     core: &mut [u16; 12],
     memory: &mut [u16],
     marks: &mut [u8],
+    edition: u16,
     limit: u32,
     log: &mut [u32],
     logged: &mut usize,
 ) -> u64
-    ensures { call result (core.new ∷ memory.new ∷ marks.new ∷ log.new ∷ (logged.new ∷ []) ∷ []) ≡ logged_call (run_logged_of plan_of (core_from core.old) (lent memory.old marks.old) limit log.old) }
+    ensures { call result (core.new ∷ memory.new ∷ marks.new ∷ log.new ∷ (logged.new ∷ []) ∷ []) ≡ logged_call (run_logged_of plan_of (core_from core.old) (lent memory.old marks.old) edition limit log.old) }
 {
-    let ended = core_of(*core).run_logged(memory, marks, limit, log);
+    let ended = core_of(*core).run_logged(memory, marks, edition, limit, log);
     put_logged_run(ended, core, logged)
 }
 
@@ -43,12 +44,13 @@ pub extern "C" fn nilguseg_run_logged_guarded(
     memory: &mut [u16],
     marks: &mut [u8],
     rights: &[u8],
+    edition: u16,
     limit: u32,
     log: &mut [u32],
     logged: &mut usize,
 ) -> u64
-    ensures { call result (core.new ∷ memory.new ∷ marks.new ∷ log.new ∷ (logged.new ∷ []) ∷ []) ≡ logged_call (run_logged_guarded_of plan_of (core_from core.old) (lent memory.old marks.old) rights.now limit log.old) }
+    ensures { call result (core.new ∷ memory.new ∷ marks.new ∷ log.new ∷ (logged.new ∷ []) ∷ []) ≡ logged_call (run_logged_guarded_of plan_of (core_from core.old) (lent memory.old marks.old) rights.now edition limit log.old) }
 {
-    let ended = core_of(*core).run_logged_guarded(memory, marks, rights, limit, log);
+    let ended = core_of(*core).run_logged_guarded(memory, marks, rights, edition, limit, log);
     put_logged_run(ended, core, logged)
 }

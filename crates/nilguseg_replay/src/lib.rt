@@ -13,10 +13,16 @@ use replay::{replay, replay_guarded};
 
 // The run that made the log, seen again: `size` is the length of the memory that it ran on.
 #[unsafe(no_mangle)]
-pub extern "C" fn nilguseg_replay(core: &mut [u16; 12], size: usize, limit: u32, log: &[u32]) -> u64
-    ensures { call result (core.new ∷ []) ≡ replay_call (replay_of plan_of None (core_from core.old) size limit log.now) }
+pub extern "C" fn nilguseg_replay(
+    core: &mut [u16; 12],
+    size: usize,
+    edition: u16,
+    limit: u32,
+    log: &[u32],
+) -> u64
+    ensures { call result (core.new ∷ []) ≡ replay_call (replay_of plan_of None edition (core_from core.old) size limit log.now) }
 {
-    let run = replay(core_of(*core), size, limit, log);
+    let run = replay(core_of(*core), size, edition, limit, log);
     put_run(run, core)
 }
 
@@ -26,11 +32,12 @@ pub extern "C" fn nilguseg_replay_guarded(
     core: &mut [u16; 12],
     size: usize,
     rights: &[u8],
+    edition: u16,
     limit: u32,
     log: &[u32],
 ) -> u64
-    ensures { call result (core.new ∷ []) ≡ replay_call (replay_of plan_of (Some rights.now) (core_from core.old) size limit log.now) }
+    ensures { call result (core.new ∷ []) ≡ replay_call (replay_of plan_of (Some rights.now) edition (core_from core.old) size limit log.now) }
 {
-    let seen = replay_guarded(core_of(*core), size, rights, limit, log);
+    let seen = replay_guarded(core_of(*core), size, rights, edition, limit, log);
     put_run(seen, core)
 }

@@ -1,23 +1,24 @@
 -- The replay's loop ends where the log is left; what it answers is what the whole run on the tape would.
-use Rattle.std.specs.Prelude.{◌≡◌, ℕ, zero, suc, ◌+◌, Bool, true, false, ◌&&◌, not, List, [], ◌++◌, length, drop, eqb, if◌then◌else◌, Option, Some, Ok, Err}
+use Rattle.std.specs.Prelude.{◌≡◌, ℕ, zero, suc, ◌+◌, Bool, true, false, ◌&&◌, not, List, [], ◌++◌, length, drop, eqb, if◌then◌else◌, Option}
 use mathlib.Core.List.{append-nil, append_assoc}
 use mathlib.Core.Path.{refl, sym, ap, ◌∙◌}
 use native.Mathlib.Omega.{arith}
+use borrow.Author.Tests.{eq-eqb, ne_eqb}
 use Rattle.instructions.proofs.Cases.{if_elim, if_both}
+use Rattle.execute.specs.Edition.{edition_of}
+use Rattle.execute.specs.declared.edition.Edition.{Edition}
 use Rattle.emulator.specs.Core.{is_halted}
-use Rattle.memory.specs.Log.{read_log, Logged}
-use Rattle.memory.specs.Memory.{length_test}
+use Rattle.memory.specs.Log.{read_log, Logged, Room}
 use Rattle.memory.specs.Outcome.{Outcome, refused, ended, refusal_number}
 use Rattle.memory.specs.Store.{Store}
-use Rattle.emulator.specs.Machine.{Plan, plan_of, Turn, cycle_of, Ran, ran, is_stepped, next_of, plain, unlogged, full_in, run_until, run_from}
+use Rattle.emulator.specs.Machine.{Plan, plan_of, Turn, cycle_of, Ran, ran, is_stepped, next_of, full_in, run_until, run_from}
 use Rattle.emulator.specs.declared.core_record.Core.{Core}
-use Rattle.memory.specs.Rights.{refused_bytes, rights_test}
 use Rattle.memory.specs.declared.refusal.LogEnd.{LogEnd}
 use Rattle.memory.specs.declared.refusal.Refusal.{Refusal}
-use Rattle.memory.proofs.Laws.{length_passes, length_fails, rights_pass, rights_fail}
+use Rattle.memory.proofs.Laws.{refuses}
 use Rattle.emulator.proofs.Keeps.{Leads, next_leads, run_leads}
 use Rattle.replay.specs.Places.{begins}
-use Rattle.replay.specs.Replay.{Tape, tape, tape_store, Replayed, replayed, answer_of, replay_of}
+use Rattle.replay.specs.Replay.{Tape, tape, tape_store, Replayed, replayed, answer_of, replay_refusal, replay_of}
 use Rattle.replay.proofs.Tapes.{begins_append, same_is}
 
 -- a log only grows: the log at the end begins with the log by now
@@ -45,32 +46,32 @@ module _ {S : Type 0} (on : Store S) (plan : Core → ℕ → Plan) (over : List
   next_until more more' n l h t =
       if_both (Until over) (is_stepped t.result.outcome) (is_stepped t.result.outcome) refl (λ _. h t.result.core t.result.memory (l ++ t.log)) (λ _. whole refl)
 
-  pub until : (k n : ℕ) (c : Core) (m : S) (l : List ℕ) → Until over (run_until on plan over why k n c m l) (run_from on plan plain k n c m l)
+  pub until : (k n : ℕ) (c : Core) (m : S) (l : List ℕ) → Until over (run_until on plan over why k n c m l) (run_from on plan Room.none k n c m l)
   unfolding run_until
   until zero n c m l = if_both (Until over) (is_halted c) (is_halted c) refl (λ _. whole refl) (λ _. whole refl)
   until (suc k) n c m l =
       if_both (Until over) (is_halted c) (is_halted c) refl
       (λ _. whole refl)
       (λ _. if_elim (λ (u : Logged (Ran S)). Until over u (next_of on' n l t)) (over l)
-      (λ e. cut e ((begins_leads on).next {m = m} {m₁ = m} {m₂ = m} (record { more = t.log; is = refl }) (next_leads on (begins_leads on) on' n l (run_leads on (begins_leads on) plan (full_in plain) LogEnd.Full k (n + 1)) t)))
+      (λ e. cut e ((begins_leads on).next {m = m} {m₁ = m} {m₂ = m} (record { more = t.log; is = refl }) (next_leads on (begins_leads on) on' n l (run_leads on (begins_leads on) plan (full_in Room.none) LogEnd.Full k (n + 1)) t)))
       (λ _. next_until (run_until on plan over why k (n + 1)) on' n l (until k (n + 1)) t))
     where
       t : Logged (Turn S)
       t = cycle_of on plan c m
 
       on' : Core → S → List ℕ → Logged (Ran S)
-      on' = run_from on plan plain k (n + 1)
+      on' = run_from on plan Room.none k (n + 1)
 
 -- what the loop leaves of the tape, and the answer by that
-module _ (rights : Option (List ℕ)) (c : Core) (size most : ℕ) (log : List ℕ) where
+module _ (rights : Option (List ℕ)) (plan : Core → ℕ → Plan) (c : Core) (size most : ℕ) (log : List ℕ) where
   abbrev off : List ℕ → Bool
   off l = not (true && begins l log)
 
   abbrev looped : Logged (Ran Tape)
-  looped = run_until (tape_store rights) plan_of off LogEnd.Mismatch most 0 c (tape size log) []
+  looped = run_until (tape_store rights) plan off LogEnd.Mismatch most 0 c (tape size log) []
 
   abbrev run : Logged (Ran Tape)
-  run = run_from (tape_store rights) plan_of (unlogged rights) most 0 c (tape size log) []
+  run = run_from (tape_store rights) plan Room.none most 0 c (tape size log) []
 
   left_off : (b : Bool) → not (true && b) ≡ true → b ≡ false
   left_off true e = absurd (let z : ◌≡◌ {A = ℕ} 0 1 = cc in omega arith)
@@ -86,7 +87,7 @@ module _ (rights : Option (List ℕ)) (c : Core) (size most : ℕ) (log : List �
 
   module _ {m read : Bool} {t : List ℕ} (so : m ≡ (true && begins looped.log log)) (at : t ≡ drop (length looped.log) log) (asked : read ≡ (m && eqb (length t) 0)) where
     told : answer read ≡ answer_of c log run
-    told = rw (asked, so, at) (answered (until (tape_store rights) plan_of off LogEnd.Mismatch most 0 c (tape size log) []))
+    told = rw (asked, so, at) (answered (until (tape_store rights) plan off LogEnd.Mismatch most 0 c (tape size log) []))
 
     -- the log is that of the run, and it isn't
     pub turns_seen : {o : Outcome} {n : ℕ} {d : Core} {x : Tape} → ran o n d x ≡ looped.result → read ≡ true → replayed o n d ≡ answer_of c log run
@@ -95,22 +96,14 @@ module _ (rights : Option (List ℕ)) (c : Core) (size most : ℕ) (log : List �
     pub turns_off : read ≡ false → replayed (ended 31) 0 c ≡ answer_of c log run
     turns_off e = rw e at told
 
-  -- the replay, by its host tests
-  pub length_refused : {r : Refusal} → Err r ≡ length_test size → replayed (refused (refusal_number r)) 0 c ≡ replay_of plan_of rights c size most log
+-- the replay, by its host tests
+module _ (rights : Option (List ℕ)) (n : ℕ) (c : Core) (size most : ℕ) (log : List ℕ) where
+  pub replay_refused : (r : Refusal) → refusal_number r ≡ replay_refusal rights n size
+      → replayed (refused (refusal_number r)) 0 c ≡ replay_of plan_of rights n c size most log
   unfolding replay_of
-  length_refused e = let f = length_fails size e in rw (f.1, f.0)
+  replay_refused r asked = rw (asked, ne_eqb (replay_refusal rights n size) 0 (refuses r asked))
 
-  pub replay_accepted : {u : Unit {0}} → Ok u ≡ length_test size → refused_bytes rights ≡ false
-      → {r : Replayed} → r ≡ answer_of c log run → r ≡ replay_of plan_of rights c size most log
+  pub replay_accepted : 0 ≡ replay_refusal rights n size → {ed : Edition} → ed ≡ edition_of n
+      → {r : Replayed} → r ≡ answer_of c log (run rights (plan_of ed) c size most log) → r ≡ replay_of plan_of rights n c size most log
   unfolding replay_of
-  replay_accepted passed e t = rw (length_passes size passed, e) t
-
--- with rights bytes
-module _ (bytes : List ℕ) (c : Core) (size most : ℕ) (log : List ℕ) {u : Unit {0}} (passed : Ok u ≡ length_test size) where
-  pub guarded_refused : {r : Refusal} → Err r ≡ rights_test bytes → replayed (refused (refusal_number r)) 0 c ≡ replay_of plan_of (Some bytes) c size most log
-  unfolding replay_of
-  guarded_refused e = let f = rights_fail bytes e in rw (f.1, length_passes size passed, f.0)
-
-  pub guarded_accepted : {b : List ℕ} → Ok b ≡ rights_test bytes
-      → {r : Replayed} → r ≡ answer_of c log (run (Some b) c size most log) → r ≡ replay_of plan_of (Some bytes) c size most log
-  guarded_accepted e t = let p = rights_pass bytes e in replay_accepted (Some bytes) c size most log passed p.0 (rw p.1 at t)
+  replay_accepted asked named t = rw (eq-eqb (replay_refusal rights n size) 0 (sym asked)) (rw named at t)

@@ -1,11 +1,13 @@
--- The replay of a log, without the memory (document 02, CR 2), and with rights (CR 3).
-use Rattle.std.specs.Prelude.{ℕ, ◌%◌, Bool, true, false, List, [], ◌∷◌, eqb, get_or, drop, if◌then◌else◌, Option, Result, Ok}
-use Rattle.memory.specs.Log.{Logged}
+-- The replay of a log, without the memory (document 02, CR 2), with rights (CR 3) and in an edition (CR 5).
+use Rattle.std.specs.Prelude.{ℕ, ◌%◌, Bool, true, false, List, [], ◌∷◌, eqb, ◌==◌, get_or, drop, if◌then◌else◌, Option, Result, Ok}
+use Rattle.memory.specs.Log.{Logged, Room}
 use Rattle.memory.specs.Memory.{refused_length, Accessed, accessed, place_of, at_place}
 use Rattle.memory.specs.Rights.{right_of, refused_bytes}
 use Rattle.memory.specs.Outcome.{Outcome, refused, ended}
 use Rattle.memory.specs.Store.{Store}
-use Rattle.emulator.specs.Machine.{Plan, Ran, unlogged, run_from}
+use Rattle.execute.specs.Edition.{refused_edition, edition_of}
+use Rattle.execute.specs.declared.edition.Edition.{Edition}
+use Rattle.emulator.specs.Machine.{Plan, Ran, then_test, run_from}
 use Rattle.emulator.specs.declared.core_record.Core.{Core}
 use Rattle.memory.specs.declared.log.Purpose.{Purpose}
 use Rattle.memory.specs.declared.rights.Right.{Right}
@@ -57,11 +59,13 @@ answer_of c log r =
     then replayed r.result.end r.result.steps r.result.core
     else replayed (ended 31) 0 c
 
--- the replay of a log with the rights bytes, if any, a core, the memory's length and the limit: first the host tests
-unfoldable pub replay_of : (Core → ℕ → Plan) → Option (List ℕ) → Core → ℕ → ℕ → List ℕ → Replayed
-replay_of plan rights c size up_to log =
-    if refused_length size
-    then replayed (refused 1) 0 c
-    else (if refused_bytes rights
-    then replayed (refused 32) 0 c
-    else answer_of c log (run_from (tape_store rights) plan (unlogged rights) up_to 0 c (tape size log) []))
+-- the host tests of a replay, in number order: 1, then 32, then 34
+abbrev pub replay_refusal : Option (List ℕ) → ℕ → ℕ → ℕ
+replay_refusal rights ed size = then_test (then_test (if refused_length size then 1 else 0) (refused_bytes rights) 32) (refused_edition ed) 34
+
+-- the replay of a log with the rights bytes, if any, the edition's number, a core, the memory's length and the limit
+unfoldable pub replay_of : (Edition → Core → ℕ → Plan) → Option (List ℕ) → ℕ → Core → ℕ → ℕ → List ℕ → Replayed
+replay_of plan rights ed c size up_to log =
+    if replay_refusal rights ed size == 0
+    then answer_of c log (run_from (tape_store rights) (plan (edition_of ed)) Room.none up_to 0 c (tape size log) [])
+    else replayed (refused (replay_refusal rights ed size)) 0 c

@@ -1,26 +1,28 @@
 -- The replay of a run's log is the run: the run on memory and the run on its log go side by side. Nothing here looks at an instruction.
 use Prim.Native.Nat.{ℕ, ◌%◌}
-use Rattle.std.specs.Prelude.{Result, Ok, Option}
+use Rattle.std.specs.Prelude.{false, Result, Ok, Option}
 use mathlib.Core.List.{List, [], ◌++◌, append-nil, append_assoc, append_cancel_left}
 use mathlib.Core.Path.{◌≡◌, refl, sym, ap, ◌∙◌}
 use native.Mathlib.Omega.{arith}
 use lib.ListN.{length, get_or, drop, length-set}
 use Rattle.instructions.proofs.Cases.{by_test}
 use Rattle.execute_laws.specs.Words.{IsWord}
-use Rattle.memory.specs.Log.{entry_of, read_log, Logged}
-use Rattle.memory.specs.Memory.{Memory, lent, refused_length, length_test, mark_read, Accessed, accessed, at_place, read_at, write_at, read_of, write_of}
+use Rattle.execute.specs.Edition.{edition_of}
+use Rattle.execute.specs.declared.edition.Edition.{Edition}
+use Rattle.memory.specs.Log.{entry_of, read_log, Logged, Room}
+use Rattle.memory.specs.Memory.{Memory, lent, refused_length, mark_read, Accessed, accessed, at_place, read_at, write_at, read_of, write_of}
 use Rattle.memory.specs.Store.{memory_store}
-use Rattle.emulator.specs.Machine.{plan_of, refusal_of, unmarked, Ran, unlogged, full_in, run_from}
+use Rattle.emulator.specs.Machine.{plan_of, refusal_of, refusal_in, unmarked, Ran, Setting, unlogged, full_in, run_from}
 use Rattle.memory.specs.Rights.{right_of}
 use Rattle.memory.specs.declared.log.Purpose.{Purpose}
 use Rattle.memory.specs.declared.refusal.LogEnd.TheVariants.{Full}
 use Rattle.memory.specs.declared.rights.Right.{Right}
 use Rattle.memory.specs.declared.stop.Stop.{Stop}
 use Rattle.emulator.proofs.Keeps.{Leads}
-use Rattle.emulator.proofs.Laws.{with_accepted, rights_accepted}
+use Rattle.emulator.proofs.Laws.{with_accepted, rights_accepted, edition_accepted}
 use Rattle.memory.proofs.Places.{place_elim, place_both}
 use Rattle.emulator.proofs.Whole.{accepted_run}
-use Rattle.replay.specs.Replay.{Tape, tape, read_tape, write_tape, tape_store, answer_of}
+use Rattle.replay.specs.Replay.{Tape, tape, read_tape, write_tape, tape_store, answer_of, replay_refusal}
 use Rattle.replay.proofs.Replays.{Begins, begins_leads, replay_accepted}
 use Rattle.replay.proofs.Tapes.{same_self}
 use Rattle.run_laws.proofs.Logs.{logged_plain}
@@ -92,38 +94,44 @@ module _ (rights : Option (List ℕ)) (F : List ℕ) where
   read_fits m p a h =
       place_elim rights (length m.words) (right_of p) a (λ (k : Result ℕ Stop). ReadFits IsWord (read_at m k).answer) (λ _ _. h a) (λ _. tt)
 
-  on_tape : Simulates (memory_store rights) (tape_store rights) plan_of IsWord CoreFits (OnTape F) (Seen F)
-  on_tape =
+  on_tape : (ed : Edition) → Simulates (memory_store rights) (tape_store rights) (plan_of ed) IsWord CoreFits (OnTape F) (Seen F)
+  on_tape ed =
       record {
         read = twin_read;
         read_fits = λ p l m t a h. read_fits m p a h.fits;
         write = twin_write;
         seen = seen_leads rights F;
-        plan_fits = plan_fits;
-        access_fits = access_fits;
+        plan_fits = plan_fits ed;
+        access_fits = access_fits ed;
         load_fits = load_fits;
       }
 
--- host test 1 doesn't refuse the length of accepted memory
-length_passed : (m : Memory) → refusal_of m ≡ 0 → Ok tt ≡ length_test (length m.words)
+-- where no host test of the run refuses, none of the replay does
+length_passed : (m : Memory) → refusal_of m ≡ 0 → refused_length (length m.words) ≡ false
 unfolding refusal_of
-length_passed m ok =
-    by_test (refused_length (length m.words)) (λ t. absurd (let z : ◌≡◌ {A = ℕ} 1 0 = rw t at ok in omega arith)) (λ f. rw f)
+length_passed m ok = by_test (refused_length (length m.words)) (λ t. absurd (let z : ◌≡◌ {A = ℕ} 1 0 = rw t at ok in omega arith)) (λ f. f)
+
+replay_passes : (given : Setting) (m : Memory) → refusal_in given m ≡ 0 → 0 ≡ replay_refusal given.rights given.edition (length m.words)
+replay_passes given m ok =
+    rw (rights_accepted given m ok, edition_accepted given m ok, length_passed m (with_accepted given m ok))
 
 pub replay_is_run : ReplayIsRun
 replay_is_run given c m limit core memory ok room =
-    rw (logged_plain plan_of given c m limit room, accepted_run plan_of (unlogged given.rights) c m limit ok)
-    (sym (replay_accepted given.rights c (length m.words) limit first.log (length_passed m (with_accepted given.rights m ok)) (rights_accepted given.rights m ok) refl) ∙ seen)
+    rw (logged_plain plan_of given c m limit room, accepted_run plan_of (unlogged given.rights given.edition) c m limit ok)
+    (sym (replay_accepted given.rights given.edition c (length m.words) limit first.log (replay_passes given m ok) refl refl) ∙ seen)
   where
+    edition : Edition
+    edition = edition_of given.edition
+
     first : Logged (Ran Memory)
-    first = run_from (memory_store given.rights) plan_of (unlogged given.rights) limit 0 c (unmarked m) []
+    first = run_from (memory_store given.rights) (plan_of edition) Room.none limit 0 c (unmarked m) []
 
     again : Logged (Ran Tape)
-    again = run_from (tape_store given.rights) plan_of (unlogged given.rights) limit 0 c (tape (length m.words) first.log) []
+    again = run_from (tape_store given.rights) (plan_of edition) Room.none limit 0 c (tape (length m.words) first.log) []
 
-    twins : RanTwins (memory_store given.rights) (tape_store given.rights) plan_of IsWord CoreFits (OnTape first.log) (Seen first.log) (on_tape given.rights first.log) first again
+    twins : RanTwins (memory_store given.rights) (tape_store given.rights) (plan_of edition) IsWord CoreFits (OnTape first.log) (Seen first.log) (on_tape given.rights first.log edition) first again
     twins =
-        twin_run (memory_store given.rights) (tape_store given.rights) plan_of IsWord CoreFits (OnTape first.log) (Seen first.log) (on_tape given.rights first.log) (full_in (unlogged given.rights)) Full limit 0 c (unmarked m) (tape (length m.words) first.log) [] core
+        twin_run (memory_store given.rights) (tape_store given.rights) (plan_of edition) IsWord CoreFits (OnTape first.log) (Seen first.log) (on_tape given.rights first.log edition) (full_in Room.none) Full limit 0 c (unmarked m) (tape (length m.words) first.log) [] core
         (record { size = refl; rest = refl; fits = memory })
         (record { more = []; is = sym (append-nil first.log) })
 

@@ -16,6 +16,7 @@ use Rattle.std.specs.Prelude.{Result, Ok, Err}
 use Rattle.instructions.specs.declared.reg.GeneralPurposeRegister.{GeneralPurposeRegister}
 use Rattle.execute.specs.Execute.{execute_of}
 use Rattle.execute.specs.Registers.{registers}
+use Rattle.execute.specs.declared.edition.Edition.{Edition}
 use Rattle.execute.specs.declared.effect.Effect.{Effect}
 use Rattle.execute.specs.declared.effect.Effect.TheVariants as effect
 use Rattle.execute_laws.specs.Words.{IsWord, EffectFits}
@@ -79,18 +80,18 @@ advanced_fits : (c : Core) → CoreFits c → CoreFits (advanced c)
 advanced_fits c h = record { gprs = h.gprs; ip = reduced _; rp = h.rp; sp = h.sp; ef = h.ef }
 
 -- a plan, by what the word decodes to
-decoded_fits : (c : Core) (w : ℕ) → CoreFits c → (d : Result Instruction Undecodable) → decode_of w ≡ d → CoreFits (decoded_plan c w d).core
-decoded_fits c w h (Ok i) e = after_fits c (execute_of (registers c.gprs c.ip c.rp c.sp c.ef) i w) h (words _ w i h e)
-decoded_fits c w h (Err v) e = h
+decoded_fits : (ed : Edition) (c : Core) (w : ℕ) → CoreFits c → (d : Result Instruction Undecodable) → decode_of w ≡ d → CoreFits (decoded_plan ed c w d).core
+decoded_fits ed c w h (Ok i) e = after_fits c (execute_of ed (registers c.gprs c.ip c.rp c.sp c.ef) i w) h (words ed _ w i h e)
+decoded_fits ed c w h (Err v) e = h
 
-decoded_stored : (c : Core) (w : ℕ) → CoreFits c → (d : Result Instruction Undecodable) → decode_of w ≡ d → AccessFits IsWord (decoded_plan c w d).access
-decoded_stored c w h (Ok i) e = stored_fits (execute_of (registers c.gprs c.ip c.rp c.sp c.ef) i w) (words _ w i h e)
-decoded_stored c w h (Err v) e = tt
+decoded_stored : (ed : Edition) (c : Core) (w : ℕ) → CoreFits c → (d : Result Instruction Undecodable) → decode_of w ≡ d → AccessFits IsWord (decoded_plan ed c w d).access
+decoded_stored ed c w h (Ok i) e = stored_fits (execute_of ed (registers c.gprs c.ip c.rp c.sp c.ef) i w) (words ed _ w i h e)
+decoded_stored ed c w h (Err v) e = tt
 
-pub plan_fits : (c : Core) (w : ℕ) → CoreFits c → IsWord w → CoreFits (plan_of (advanced c) w).core
+pub plan_fits : (ed : Edition) (c : Core) (w : ℕ) → CoreFits c → IsWord w → CoreFits (plan_of ed (advanced c) w).core
 unfolding plan_of
-plan_fits c w h f = decoded_fits (advanced c) w (advanced_fits c h) (decode_of w) refl
+plan_fits ed c w h f = decoded_fits ed (advanced c) w (advanced_fits c h) (decode_of w) refl
 
-pub access_fits : (c : Core) (w : ℕ) → CoreFits c → IsWord w → AccessFits IsWord (plan_of (advanced c) w).access
+pub access_fits : (ed : Edition) (c : Core) (w : ℕ) → CoreFits c → IsWord w → AccessFits IsWord (plan_of ed (advanced c) w).access
 unfolding plan_of
-access_fits c w h f = decoded_stored (advanced c) w (advanced_fits c h) (decode_of w) refl
+access_fits ed c w h f = decoded_stored ed (advanced c) w (advanced_fits c h) (decode_of w) refl

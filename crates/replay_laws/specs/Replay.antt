@@ -1,10 +1,10 @@
--- The replay of a run's log is the run (document 02, CR 2 and CR 3). The claim is over what a word is planned to do, and mentions no instruction.
+-- The replay of a run's log is the run (document 02, CR 2, CR 3 and CR 5). The claim is over what a word is planned to do, and mentions no instruction.
 use Rattle.std.specs.Prelude.{ℕ, ◌≡◌, length, get_or}
 use Rattle.execute.specs.Registers.{registers}
 use Rattle.execute_laws.specs.Words.{IsWord, RegistersFit}
 use Rattle.memory.specs.Log.{Logged}
 use Rattle.memory.specs.Memory.{Memory}
-use Rattle.emulator.specs.Machine.{plan_of, Ran, Setting, refusal_with, run_in}
+use Rattle.emulator.specs.Machine.{plan_of, Ran, Setting, refusal_in, run_in}
 use Rattle.emulator.specs.declared.core_record.Core.{Core}
 use Rattle.replay.specs.Replay.{Replayed, replayed, replay_of}
 use Rattle.run_laws.specs.Agreement.{HasRoom}
@@ -21,9 +21,9 @@ abbrev pub seen_again : Logged (Ran Memory) → Replayed
 seen_again r = replayed r.result.end r.result.steps r.result.core
 
 -- for every run that no host test refuses and that doesn't end by 30, logged or not, with rights or without: the replay of its log, with its
--- rights, its core, its memory's length and its limit
+-- rights, its edition, its core, its memory's length and its limit
 abbrev pub ReplayIsRun : Type 0
 ReplayIsRun =
     (given : Setting) (c : Core) (m : Memory) (limit : ℕ)
-    → CoreFits c → MemoryFits m → refusal_with given.rights m ≡ 0 → HasRoom (run_in plan_of given c m limit)
-    → replay_of plan_of given.rights c (length m.words) limit (run_in plan_of given c m limit).log ≡ seen_again (run_in plan_of given c m limit)
+    → CoreFits c → MemoryFits m → refusal_in given m ≡ 0 → HasRoom (run_in plan_of given c m limit)
+    → replay_of plan_of given.rights given.edition c (length m.words) limit (run_in plan_of given c m limit).log ≡ seen_again (run_in plan_of given c m limit)

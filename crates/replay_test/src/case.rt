@@ -202,7 +202,7 @@ impl Case {
     fn steps_so(&self) -> bool {
         let mut memory = self.start.memory;
         let mut core = self.start.core();
-        let answer = step_lent(&mut core, &mut memory.words, &mut memory.marks);
+        let answer = step_lent(&mut core, &mut memory.words, &mut memory.marks, 1);
         Outcome::of_step(answer) == Some(self.outcome)
             && self.end.has_core(core)
             && memory == self.end.memory
@@ -211,7 +211,7 @@ impl Case {
     fn runs_so(&self, limit: u32) -> bool {
         let mut memory = self.start.memory;
         let core = self.start.core();
-        let run = core.run(&mut memory.words, &mut memory.marks, limit);
+        let run = core.run(&mut memory.words, &mut memory.marks, 1, limit);
         self.is_run(run) && memory == self.end.memory
     }
 
@@ -220,13 +220,13 @@ impl Case {
         let mut memory = self.start.memory;
         let mut log = [0; LOG];
         let core = self.start.core();
-        let logged = core.run_logged(&mut memory.words, &mut memory.marks, limit, &mut log);
+        let logged = core.run_logged(&mut memory.words, &mut memory.marks, 1, limit, &mut log);
         let Some(log) = log.get(..logged.logged) else {
             return false;
         };
         self.is_run(logged.run)
             && memory == self.end.memory
-            && self.is_run(replay::replay(core, memory.words.len(), limit, log))
+            && self.is_run(replay::replay(core, memory.words.len(), 1, limit, log))
     }
 
     fn is_run(&self, run: Run) -> bool {

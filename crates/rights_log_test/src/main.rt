@@ -45,7 +45,7 @@ fn show_replay(rt: &impl Print, byte: u8, log: &[u32]) -> io::Result<()> {
     print!(rt; "  by {byte}: ")?;
     show_end(
         rt,
-        replay_guarded(start(), WORDS, &rights(byte), LIMIT, log),
+        replay_guarded(start(), WORDS, &rights(byte), 1, LIMIT, log),
     )?;
     println!(rt)
 }
@@ -60,6 +60,7 @@ fn show(rt: &impl Print, rule: &[u16; 2], byte: u8, log: &mut [u32]) -> io::Resu
         &mut words,
         &mut marks,
         &rights(byte),
+        1,
         LIMIT,
         log,
     );

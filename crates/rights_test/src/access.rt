@@ -112,7 +112,7 @@ fn show(
     let mut words = words(access, start, address);
     let mut marks = [7; MOST];
     let rights = rights(start, address, byte);
-    let run = core.run_guarded(&mut words[..size], &mut marks[..size], &rights, LIMIT);
+    let run = core.run_guarded(&mut words[..size], &mut marks[..size], &rights, 1, LIMIT);
     let at = usize::from(address);
     let Core { gprs, ip, sp, .. } = run.core;
     print!(rt;

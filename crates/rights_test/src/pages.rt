@@ -9,7 +9,7 @@ fn show(rt: &impl Print, core: Core, limit: u32, page: u8) -> io::Result<()> {
     rights[usize::from(page)] = 3;
     let mut words = [0; 65536];
     let mut marks = [7; 65536];
-    let run = core.run_guarded(&mut words, &mut marks, &rights, limit);
+    let run = core.run_guarded(&mut words, &mut marks, &rights, 1, limit);
     let first = usize::from(page) * 256;
     print!(rt;
         "from {} to page {page}: {} {} ",

@@ -17,11 +17,12 @@ fn show(rt: &impl Print, size: usize, marked: usize, rights: &[u8]) -> io::Resul
         ..Core::new()
     };
     let (mut words, mut marks, mut log) = ([7; 2], [7; 2], [7; 4]);
-    let run = core.run_guarded(&mut words[..size], &mut marks[..marked], rights, LIMIT);
+    let run = core.run_guarded(&mut words[..size], &mut marks[..marked], rights, 1, LIMIT);
     let logging = core.run_logged_guarded(
         &mut words[..size],
         &mut marks[..marked],
         rights,
+        1,
         LIMIT,
         &mut log,
     );
@@ -29,7 +30,7 @@ fn show(rt: &impl Print, size: usize, marked: usize, rights: &[u8]) -> io::Resul
         run: logged,
         logged: count,
     } = logging;
-    let seen = replay_guarded(core, size, rights, LIMIT, &log);
+    let seen = replay_guarded(core, size, rights, 1, LIMIT, &log);
     print!(rt; "{size} words {marked} marks {} rights:", rights.len())?;
     for run in [run, logged, seen] {
         print!(rt; " {} {}", Shown(run.end), run.steps)?;

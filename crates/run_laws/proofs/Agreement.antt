@@ -11,7 +11,9 @@ use Rattle.memory.specs.Log.{Logged, logged, Room}
 use Rattle.memory.specs.Memory.{Memory, lent, was_read, was_written, read_mark, write_mark, mark_read, mark_write, read_at, write_at, read_of, write_of, Below}
 use Rattle.memory.specs.Rights.{right_of}
 use Rattle.memory.specs.Store.{memory_store}
-use Rattle.emulator.specs.Machine.{Plan, plan_of, Access, none, load, store, stop, advanced, unmarked, Ran, ran, Setting, setting, full_in, plain, unlogged, refusal_with, run_from, run_in}
+use Rattle.execute.specs.Edition.{edition_of}
+use Rattle.execute.specs.declared.edition.Edition.{Edition}
+use Rattle.emulator.specs.Machine.{Plan, plan_of, Access, none, load, store, stop, advanced, unmarked, Ran, ran, Setting, setting, full_in, plain, unlogged, refusal_in, run_from, run_in}
 use Rattle.emulator.specs.declared.core_record.Core.{Core}
 use Rattle.memory.specs.declared.refusal.LogEnd.TheVariants.{Full}
 use Rattle.memory.specs.declared.log.Purpose.{Purpose}
@@ -167,7 +169,7 @@ module _ (rights : Option (List ℕ)) {M N : List ℕ} (F : List ℕ) (agree : (
       }
 
 -- two runs in one setting
-module _ (plan : Core → ℕ → Plan) (given : Setting) (c : Core) (limit : ℕ) (m m' : Memory) (ok : refusal_with given.rights m ≡ 0) (ok' : refusal_with given.rights m' ≡ 0)
+module _ (plan : Edition → Core → ℕ → Plan) (given : Setting) (c : Core) (limit : ℕ) (m m' : Memory) (ok : refusal_in given m ≡ 0) (ok' : refusal_in given m' ≡ 0)
     (sizes : length m.words ≡ length m'.words) where
   zeros : List ℕ
   zeros = replicate (length m.marks) 0
@@ -180,10 +182,10 @@ module _ (plan : Core → ℕ → Plan) (given : Setting) (c : Core) (limit : �
   unfolding zeros
   start =
       record {
-        marks = ap (λ (n : ℕ). replicate n 0) (accepted_marked m' (with_accepted given.rights m' ok') ∙ (sym sizes ∙ sym (accepted_marked m (with_accepted given.rights m ok))));
+        marks = ap (λ (n : ℕ). replicate n 0) (accepted_marked m' (with_accepted given m' ok') ∙ (sym sizes ∙ sym (accepted_marked m (with_accepted given m ok))));
         sizes = sizes;
         begun = refl;
-        marked = length-replicate (length m.marks) 0 ∙ accepted_marked m (with_accepted given.rights m ok);
+        marked = length-replicate (length m.marks) 0 ∙ accepted_marked m (with_accepted given m ok);
         written = λ a e. absurd (zero_bit a e);
         first = λ a e. refl;
         second = λ a e. refl;
@@ -213,29 +215,32 @@ module _ (plan : Core → ℕ → Plan) (given : Setting) (c : Core) (limit : �
       → AgreeLogged m m' (run_in plan given c m limit) (run_in plan given c m' limit)
   in_one_setting agree =
       rw (accepted_run plan given c m limit ok, accepted_run plan given c m' limit ok')
-      (let t = twin_run (memory_store given.rights) (memory_store given.rights) plan Any (λ d. Unit {0}) (λ l. Alike m.words m'.words) (λ l. Seen F) (twins given.rights F agree₁ plan) (full_in given) Full limit 0 c (unmarked m) (unmarked m') [] tt start (λ a e. e) in
+      (let t = twin_run (memory_store given.rights) (memory_store given.rights) (plan (edition_of given.edition)) Any (λ d. Unit {0}) (λ l. Alike m.words m'.words) (λ l. Seen F) (twins given.rights F agree₁ (plan (edition_of given.edition))) (full_in given.room) Full limit 0 c (unmarked m) (unmarked m') [] tt start (λ a e. e) in
       whole t.same t.alike)
     where
       F : List ℕ
-      F = (run_from (memory_store given.rights) plan given limit 0 c (unmarked m) []).result.memory.marks
+      F = (run_from (memory_store given.rights) (plan (edition_of given.edition)) given.room limit 0 c (unmarked m) []).result.memory.marks
 
       agree₁ : (a : ℕ) → was_read (get_or F a 0) ≡ 1 → word_at m a ≡ word_at m' a
       agree₁ = rw (accepted_run plan given c m limit ok) at agree
 
 -- a setting by its parts
-same_setting : (g g' : Setting) → g'.room ≡ g.room → g'.rights ≡ g.rights → g' ≡ g
-same_setting g g' p q = ap (λ (x : Room). setting x g'.rights) p ∙ ap (λ (x : Option (List ℕ)). setting g.room x) q
+same_setting : (g g' : Setting) → g'.room ≡ g.room → g'.rights ≡ g.rights → g'.edition ≡ g.edition → g' ≡ g
+same_setting g g' p q r =
+    ap (λ (x : Room). setting x g'.rights g'.edition) p
+    ∙ (ap (λ (x : Option (List ℕ)). setting g.room x g'.edition) q ∙ ap (setting g.room g.rights) r)
 
-agreement_of : (plan : Core → ℕ → Plan) → AgreementOf plan
-agreement_of plan given given' c limit m m' same ok ok' sizes (equal_room e) agree =
-    subst (λ (s : Setting). AgreeLogged m m' (run_in plan given c m limit) (run_in plan s c m' limit)) (sym (same_setting given given' e same))
-    (in_one_setting plan given c limit m m' ok (rw same at ok') sizes agree)
-agreement_of plan given given' c limit m m' same ok ok' sizes (enough_room r q) agree =
-    rw (logged_plain plan given c m limit r, logged_plain plan given' c m' limit q, same)
-    (in_one_setting plan (unlogged given.rights) c limit m m' ok (rw same at ok') sizes (rw (logged_plain plan given c m limit r) at agree))
+agreement_of : (plan : Edition → Core → ℕ → Plan) → AgreementOf plan
+agreement_of plan given given' c limit m m' edition rights ok ok' sizes (equal_room e) agree =
+    subst (λ (s : Setting). AgreeLogged m m' (run_in plan given c m limit) (run_in plan s c m' limit)) (sym (same_setting given given' e rights edition))
+    (in_one_setting plan given c limit m m' ok (rw (rights, edition) at ok') sizes agree)
+agreement_of plan given given' c limit m m' edition rights ok ok' sizes (enough_room r q) agree =
+    rw (logged_plain plan given c m limit r, logged_plain plan given' c m' limit q, rights, edition)
+    (in_one_setting plan (unlogged given.rights given.edition) c limit m m' ok (rw (rights, edition) at ok') sizes (rw (logged_plain plan given c m limit r) at agree))
 
 pub agreement : Agreement
 agreement = agreement_of plan_of
 
 pub plain_agreement : PlainAgreement
-plain_agreement c limit m m' ok ok' sizes agree = (agreement plain plain c limit m m' refl ok ok' sizes (equal_room refl) agree).runs
+plain_agreement edition c limit m m' ok ok' sizes agree =
+    (agreement (plain edition) (plain edition) c limit m m' refl refl ok ok' sizes (equal_room refl) agree).runs

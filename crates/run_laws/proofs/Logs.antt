@@ -7,11 +7,13 @@ use native.Mathlib.Nat.{add-zero}
 use native.Mathlib.Omega.{arith}
 use lib.ListN.{length-append}
 use Rattle.emulator.specs.Core.{is_halted}
-use Rattle.memory.specs.Log.{entry_of, read_log, reply_log, Logged, logged}
+use Rattle.memory.specs.Log.{entry_of, read_log, reply_log, Logged, logged, Room}
 use Rattle.memory.specs.Memory.{Memory}
 use Rattle.memory.specs.Outcome.{Outcome, stepped, fault, refused, ended, stop_of}
 use Rattle.memory.specs.Store.{memory_store}
-use Rattle.emulator.specs.Machine.{Access, none, load, store, stop, Plan, plan_of, read_reply, write_reply, settle_of, make_of, Turn, turn, carry_out, on_fetch, advanced, cycle_of, unmarked, Ran, ran, is_stepped, next_of, Setting, full_in, unlogged, logging_in, refusal_with, run_until, run_from, run_in}
+use Rattle.execute.specs.Edition.{edition_of}
+use Rattle.execute.specs.declared.edition.Edition.{Edition}
+use Rattle.emulator.specs.Machine.{Access, none, load, store, stop, Plan, plan_of, read_reply, write_reply, settle_of, make_of, Turn, turn, carry_out, on_fetch, advanced, cycle_of, unmarked, Ran, ran, is_stepped, next_of, Setting, full_in, unlogged, logging_in, refusal_in, run_until, run_from, run_in}
 use Rattle.emulator.specs.declared.core_record.Core.{Core}
 use Rattle.memory.specs.declared.log.Purpose.{Purpose}
 use Rattle.memory.specs.declared.refusal.LogEnd.{LogEnd}
@@ -122,21 +124,21 @@ turns_reads rights plan over why (suc k) n c m l h =
     (λ _. next_reads (run_until (memory_store rights) plan over why k (n + 1)) n l h (turns_reads rights plan over why k (n + 1)) _ _ (cycle_comes rights plan c m)))
 
 -- a run is its turns, or is refused with nothing logged
-run_in_by : (P : Logged (Ran Memory) → Type 0) (plan : Core → ℕ → Plan) (given : Setting) (c : Core) (m : Memory) (limit : ℕ)
-    → P (run_from (memory_store given.rights) plan given limit 0 c (unmarked m) []) → P (logged (ran (refused (refusal_with given.rights m)) 0 c m) []) → P (run_in plan given c m limit)
+run_in_by : (P : Logged (Ran Memory) → Type 0) (plan : Edition → Core → ℕ → Plan) (given : Setting) (c : Core) (m : Memory) (limit : ℕ)
+    → P (run_from (memory_store given.rights) (plan (edition_of given.edition)) given.room limit 0 c (unmarked m) []) → P (logged (ran (refused (refusal_in given m)) 0 c m) []) → P (run_in plan given c m limit)
 unfolding run_in
-run_in_by P plan given c m limit turns refusal = if_elim P (eqb (refusal_with given.rights m) 0) (λ _. turns) (λ _. refusal)
+run_in_by P plan given c m limit turns refusal = if_elim P (eqb (refusal_in given m) 0) (λ _. turns) (λ _. refusal)
 
 pub log_size : LogSize
 log_size =
     record {
       two_words = two_words;
-      two_reads = λ rights c m. few (cycle_comes rights plan_of c m);
+      two_reads = λ rights ed c m. few (cycle_comes rights (plan_of ed) c m);
       run_reads = λ given c m limit.
-          run_in_by ReadsOf plan_of given c m limit (turns_reads given.rights plan_of (full_in given) Full limit 0 c (unmarked m) [] no_reads) (end_reads 0 no_reads);
-      in_buffer = λ c m limit buffer rights.
-          run_in_by (λ r. length r.log ≤ length buffer) plan_of (logging_in buffer rights) c m limit
-          (run_fits (memory_store rights) plan_of (length buffer) Full limit 0 c (unmarked m) [] (omega arith))
+          run_in_by ReadsOf plan_of given c m limit (turns_reads given.rights (plan_of (edition_of given.edition)) (full_in given.room) Full limit 0 c (unmarked m) [] no_reads) (end_reads 0 no_reads);
+      in_buffer = λ c m limit buffer rights n.
+          run_in_by (λ r. length r.log ≤ length buffer) plan_of (logging_in buffer rights n) c m limit
+          (run_fits (memory_store rights) (plan_of (edition_of n)) (length buffer) Full limit 0 c (unmarked m) [] (omega arith))
           (omega arith);
     }
 
@@ -158,13 +160,13 @@ CutIfFull plainly n r = r.result.end ≡ ended 30 → Cut plainly n r
 
 module _ (rights : Option (List ℕ)) (plan : Core → ℕ → Plan) (over : List ℕ → Bool) where
   room_turns : (k n : ℕ) (c : Core) (m : Memory) (l : List ℕ)
-      → SameIfRoom (run_until (memory_store rights) plan over Full k n c m l) (run_from (memory_store rights) plan (unlogged rights) k n c m l)
+      → SameIfRoom (run_until (memory_store rights) plan over Full k n c m l) (run_from (memory_store rights) plan Room.none k n c m l)
   unfolding run_until
   room_turns zero n c m l = λ _. refl
   room_turns (suc k) n c m l =
       if_both SameIfRoom (is_halted c) (is_halted c) refl
       (λ _ _. refl)
-      (λ _. if_elim (λ (r : Logged (Ran Memory)). SameIfRoom r (next_of (run_from (memory_store rights) plan (unlogged rights) k (n + 1)) n l t)) (over l)
+      (λ _. if_elim (λ (r : Logged (Ran Memory)). SameIfRoom r (next_of (run_from (memory_store rights) plan Room.none k (n + 1)) n l t)) (over l)
       (λ _ room. absurd (room refl))
       (λ _. if_both SameIfRoom (is_stepped t.result.outcome) (is_stepped t.result.outcome) refl
       (λ _. room_turns k (n + 1) t.result.core t.result.memory (l ++ t.log))
@@ -174,42 +176,42 @@ module _ (rights : Option (List ℕ)) (plan : Core → ℕ → Plan) (over : Lis
       t = cycle_of (memory_store rights) plan c m
 
   full_turns : (k n : ℕ) (c : Core) (m : Memory) (l : List ℕ)
-      → CutIfFull (λ j. run_from (memory_store rights) plan (unlogged rights) j n c m l) n (run_until (memory_store rights) plan over Full k n c m l)
+      → CutIfFull (λ j. run_from (memory_store rights) plan Room.none j n c m l) n (run_until (memory_store rights) plan over Full k n c m l)
   unfolding run_until
   full_turns zero n c m l = if_elim (CutIfFull _ n) (is_halted c) (λ _ e. clash (cc)) (λ _ e. clash (cc))
   full_turns (suc k) n c m l =
       if_elim (CutIfFull plainly n) (is_halted c)
       (λ _ e. clash (cc))
       (λ q. if_elim (CutIfFull plainly n) (over l)
-      (λ _ e. record { left = 0; counted = omega arith; same = ap (λ (r : Logged (Ran Memory)). r.result) (run_limit (memory_store rights) plan (full_in (unlogged rights)) Full c m n l q) })
+      (λ _ e. record { left = 0; counted = omega arith; same = ap (λ (r : Logged (Ran Memory)). r.result) (run_limit (memory_store rights) plan (full_in Room.none) Full c m n l q) })
       (λ _. if_elim (CutIfFull plainly n) (is_stepped t.result.outcome)
       (λ s e. turn_more q s (full_turns k (n + 1) t.result.core t.result.memory (l ++ t.log) e))
       (λ _ e. absurd (not_full (cycle_comes rights plan c m) e))))
     where
       plainly : ℕ → Logged (Ran Memory)
-      plainly j = run_from (memory_store rights) plan (unlogged rights) j n c m l
+      plainly j = run_from (memory_store rights) plan Room.none j n c m l
 
       t : Logged (Turn Memory)
       t = cycle_of (memory_store rights) plan c m
 
       -- the run without a log makes the turn too
       turn_more : is_halted c ≡ false → is_stepped t.result.outcome ≡ true → {r : Logged (Ran Memory)}
-          → Cut (λ j. run_from (memory_store rights) plan (unlogged rights) j (n + 1) t.result.core t.result.memory (l ++ t.log)) (n + 1) r → Cut plainly n r
+          → Cut (λ j. run_from (memory_store rights) plan Room.none j (n + 1) t.result.core t.result.memory (l ++ t.log)) (n + 1) r → Cut plainly n r
       turn_more q s h = record { left = suc h.left; counted = omega arith; same = rw (q, s) h.same }
 
-pub logged_plain : (plan : Core → ℕ → Plan) (given : Setting) (c : Core) (m : Memory) (limit : ℕ) → HasRoom (run_in plan given c m limit)
-    → run_in plan given c m limit ≡ run_in plan (unlogged given.rights) c m limit
+pub logged_plain : (plan : Edition → Core → ℕ → Plan) (given : Setting) (c : Core) (m : Memory) (limit : ℕ) → HasRoom (run_in plan given c m limit)
+    → run_in plan given c m limit ≡ run_in plan (unlogged given.rights given.edition) c m limit
 unfolding run_in
 logged_plain plan given c m limit =
-    let asked = eqb (refusal_with given.rights m) 0 in
-    if_both SameIfRoom asked asked refl (λ _. room_turns given.rights plan (full_in given) limit 0 c (unmarked m) []) (λ _ _. refl)
+    let asked = eqb (refusal_in given m) 0 in
+    if_both SameIfRoom asked asked refl (λ _. room_turns given.rights (plan (edition_of given.edition)) (full_in given.room) limit 0 c (unmarked m) []) (λ _ _. refl)
 
-full_plain : (plan : Core → ℕ → Plan) (given : Setting) (c : Core) (m : Memory) (limit : ℕ) → (run_in plan given c m limit).result.end ≡ ended 30
-    → (run_in plan (unlogged given.rights) c m (run_in plan given c m limit).result.steps).result ≡ cut_at (run_in plan given c m limit)
+full_plain : (plan : Edition → Core → ℕ → Plan) (given : Setting) (c : Core) (m : Memory) (limit : ℕ) → (run_in plan given c m limit).result.end ≡ ended 30
+    → (run_in plan (unlogged given.rights given.edition) c m (run_in plan given c m limit).result.steps).result ≡ cut_at (run_in plan given c m limit)
 unfolding run_in
 full_plain plan given c m limit =
-    if_elim (λ (r : Logged (Ran Memory)). r.result.end ≡ ended 30 → (run_in plan (unlogged given.rights) c m r.result.steps).result ≡ cut_at r) (eqb (refusal_with given.rights m) 0)
-    (λ ok e. rw (ok, run_in) (whole (full_turns given.rights plan (full_in given) limit 0 c (unmarked m) [] e)))
+    if_elim (λ (r : Logged (Ran Memory)). r.result.end ≡ ended 30 → (run_in plan (unlogged given.rights given.edition) c m r.result.steps).result ≡ cut_at r) (eqb (refusal_in given m) 0)
+    (λ ok e. rw (ok, run_in) (whole (full_turns given.rights (plan (edition_of given.edition)) (full_in given.room) limit 0 c (unmarked m) [] e)))
     (λ _ e. clash (cc))
   where
     whole : {plainly : ℕ → Logged (Ran Memory)} {r : Logged (Ran Memory)} → Cut plainly 0 r → (plainly r.result.steps).result ≡ cut_at r

@@ -13,7 +13,8 @@ use Rattle.memory.specs.Log.{address_word, value_word, entry_of, read_log, Logge
 use Rattle.memory.specs.Memory.{Memory, was_read, was_written, read_mark, write_mark, read_at, write_at, read_of, write_of}
 use Rattle.memory.specs.Rights.{right_of, has_right}
 use Rattle.memory.specs.Store.{memory_store}
-use Rattle.emulator.specs.Machine.{plan_of, unmarked, Ran, Setting, full_in, refusal_with, run_in}
+use Rattle.execute.specs.Edition.{edition_of}
+use Rattle.emulator.specs.Machine.{plan_of, unmarked, Ran, Setting, full_in, refusal_in, run_in}
 use Rattle.emulator.specs.declared.core_record.Core.{Core}
 use Rattle.memory.specs.declared.log.Purpose.{Purpose}
 use Rattle.memory.specs.declared.refusal.LogEnd.TheVariants.{Full}
@@ -142,14 +143,14 @@ module _ (rights : Option (List ℕ)) (p : Purpose) (a : ℕ) (word : a < 2 ^ 16
       }
 
 -- An accepted run.
-module _ (given : Setting) (c : Core) (m : Memory) (limit a : ℕ) (ok : refusal_with given.rights m ≡ 0) where
+module _ (given : Setting) (c : Core) (m : Memory) (limit a : ℕ) (ok : refusal_in given m ≡ 0) where
   abbrev run : Logged (Ran Memory)
   run = run_in plan_of given c m limit
 
   spared : Spares given.rights a (unmarked m) run.result.memory
   spared =
       rw (accepted_run plan_of given c m limit ok)
-      (run_leads (memory_store given.rights) (spares_leads given.rights a) plan_of (full_in given) Full limit 0 c (unmarked m) [])
+      (run_leads (memory_store given.rights) (spares_leads given.rights a) (plan_of (edition_of given.edition)) (full_in given.room) Full limit 0 c (unmarked m) [])
 
   no_mark : mark_at (unmarked m) a ≡ 0
   no_mark = get_d_zeros (length m.marks) a
@@ -163,8 +164,8 @@ module _ (given : Setting) (c : Core) (m : Memory) (limit a : ℕ) (ok : refusal
   unnamed : (p : Purpose) → a < 2 ^ 16 → Lacks given.rights (right_of p) a → Unnamed p a run.log
   unnamed p w l =
       rw (accepted_run plan_of given c m limit ok)
-      ((run_leads (memory_store given.rights) (unlogs_leads given.rights p a w l) plan_of (full_in given) Full limit 0 c (unmarked m) []
-      (accepted_length m (with_accepted given.rights m ok))).1
+      ((run_leads (memory_store given.rights) (unlogs_leads given.rights p a w l) (plan_of (edition_of given.edition)) (full_in given.room) Full limit 0 c (unmarked m) []
+      (accepted_length m (with_accepted given m ok))).1
       (unnamed_none p a))
 
   untouched : a < 2 ^ 16 → Closed given.rights a → Untouched m a run
@@ -179,7 +180,7 @@ module _ (given : Setting) (c : Core) (m : Memory) (limit a : ℕ) (ok : refusal
       }
 
 -- Two accepted runs whose memories differ only on pages without any right.
-module _ (given : Setting) (c : Core) (m m' : Memory) (limit : ℕ) (ok : refusal_with given.rights m ≡ 0) (ok' : refusal_with given.rights m' ≡ 0)
+module _ (given : Setting) (c : Core) (m m' : Memory) (limit : ℕ) (ok : refusal_in given m ≡ 0) (ok' : refusal_in given m' ≡ 0)
     (sizes : length m.words ≡ length m'.words) (same : EqualButClosed given.rights m m') where
   -- a word that the first marks as read is equal in both
   marked_same : (a : ℕ) → was_read (mark_at (run_in plan_of given c m limit).result.memory a) ≡ 1 → word_at m a ≡ word_at m' a
@@ -194,7 +195,7 @@ module _ (given : Setting) (c : Core) (m m' : Memory) (limit : ℕ) (ok : refusa
   unseen = record { agree = agree; words = words }
     where
       agree : AgreeLogged m m' (run_in plan_of given c m limit) (run_in plan_of given c m' limit)
-      agree = agreement given given c limit m m' refl ok ok' sizes (equal_room refl) marked_same
+      agree = agreement given given c limit m m' refl refl ok ok' sizes (equal_room refl) marked_same
 
       words : EqualButClosed given.rights (run_in plan_of given c m limit).result.memory (run_in plan_of given c m' limit).result.memory
       words a r h =

@@ -1,6 +1,7 @@
 -- The twelve rows of document 01's 'Words a planner would recognise', computed from the definitions together.
 use mathlib.Core.Path.{refl}
 use Rattle.instructions.specs.Decoding.{decode_of}
+use Rattle.execute.specs.Edition.{refused_edition, edition_of}
 use Rattle.execute.specs.Execute.{execute_of}
 use Rattle.memory.specs.Memory.{refused_length, read_mark, write_mark, place_of, read_of, write_of}
 use Rattle.memory.specs.Rights.{has_right}
@@ -8,5 +9,5 @@ use Rattle.emulator.specs.Machine.{plan_of, cycle_of, refusal_of, step_of, run_u
 use Rattle.run_laws.specs.Rows.{Rows}
 
 pub rows : Rows
-unfolding decode_of execute_of refused_length read_mark write_mark has_right place_of read_of write_of plan_of cycle_of refusal_of step_of run_until run_in
+unfolding decode_of refused_edition edition_of execute_of refused_length read_mark write_mark has_right place_of read_of write_of plan_of cycle_of refusal_of step_of run_until run_in
 rows = refl

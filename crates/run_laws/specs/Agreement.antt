@@ -1,10 +1,11 @@
--- Two runs agree (document 01, The run, and document 02, CR 2 and CR 3): one claim over every two accepted runs of one core and one limit, with equal
--- rights. It rests on the definitions of the machine and mentions no instruction.
+-- Two runs agree (document 01, The run, and document 02, CR 2, CR 3 and CR 5): one claim over every two accepted runs of one core and one limit, with
+-- equal rights and in one edition. It rests on the definitions of the machine and mentions no instruction.
 use Rattle.std.specs.Prelude.{ℕ, ◌≡◌, length, get_or}
 use Rattle.memory.specs.Log.{Logged}
 use Rattle.memory.specs.Memory.{Memory, was_read, was_written}
 use Rattle.memory.specs.Outcome.{ended}
-use Rattle.emulator.specs.Machine.{Plan, plan_of, Ran, Setting, refusal_of, refusal_with, run_in, run_of}
+use Rattle.execute.specs.declared.edition.Edition.{Edition}
+use Rattle.emulator.specs.Machine.{Plan, plan_of, Ran, Setting, plain, refusal_in, run_in, run_of}
 use Rattle.emulator.specs.declared.core_record.Core.{Core}
 
 -- the word, and the mark, at an address
@@ -48,12 +49,12 @@ pub data Compared (given given' : Setting) (r q : Logged (Ran Memory)) : Type 0 
   equal_room : given'.room ≡ given.room → Compared given given' r q
   enough_room : HasRoom r → HasRoom q → Compared given given' r q
 
--- Their rights are equal, or both have none; no host test refuses the runs, whatever marks they are lent; the memories are equally long, and equal as they stand when the runs
+-- Their editions are equal; their rights are equal, or both have none; no host test refuses the runs, whatever marks they are lent; the memories are equally long, and equal as they stand when the runs
 -- start wherever the first run's final mark includes 1.
-abbrev pub AgreementOf : (Core → ℕ → Plan) → Type 0
+abbrev pub AgreementOf : (Edition → Core → ℕ → Plan) → Type 0
 AgreementOf plan =
     (given given' : Setting) (c : Core) (limit : ℕ) (m m' : Memory)
-    → given'.rights ≡ given.rights → refusal_with given.rights m ≡ 0 → refusal_with given'.rights m' ≡ 0 → length m.words ≡ length m'.words
+    → given'.edition ≡ given.edition → given'.rights ≡ given.rights → refusal_in given m ≡ 0 → refusal_in given' m' ≡ 0 → length m.words ≡ length m'.words
     → Compared given given' (run_in plan given c m limit) (run_in plan given' c m' limit)
     → ((a : ℕ) → was_read (mark_at (run_in plan given c m limit).result.memory a) ≡ 1 → word_at m a ≡ word_at m' a)
     → AgreeLogged m m' (run_in plan given c m limit) (run_in plan given' c m' limit)
@@ -65,7 +66,7 @@ Agreement = AgreementOf plan_of
 -- and its instance for two runs without a log, document 01's third demand
 abbrev pub PlainAgreement : Type 0
 PlainAgreement =
-    (c : Core) (limit : ℕ) (m m' : Memory)
-    → refusal_of m ≡ 0 → refusal_of m' ≡ 0 → length m.words ≡ length m'.words
-    → ((a : ℕ) → was_read (mark_at (run_of plan_of c m limit).memory a) ≡ 1 → word_at m a ≡ word_at m' a)
-    → Agree m m' (run_of plan_of c m limit) (run_of plan_of c m' limit)
+    (edition : ℕ) (c : Core) (limit : ℕ) (m m' : Memory)
+    → refusal_in (plain edition) m ≡ 0 → refusal_in (plain edition) m' ≡ 0 → length m.words ≡ length m'.words
+    → ((a : ℕ) → was_read (mark_at (run_of plan_of c m edition limit).memory a) ≡ 1 → word_at m a ≡ word_at m' a)
+    → Agree m m' (run_of plan_of c m edition limit) (run_of plan_of c m' edition limit)

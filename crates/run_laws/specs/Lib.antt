@@ -1,5 +1,6 @@
 pub mod Agreement
 pub mod Claims
+pub mod Editions
 pub mod Logs
 pub mod Rights
 pub mod Rows

@@ -1,5 +1,6 @@
 -- What is claimed of a logged run and of its log (document 02, CR 2).
 use Rattle.std.specs.Prelude.{ℕ, ◌+◌, ◌*◌, ◌≤◌, List, [], ◌++◌, ◌≡◌, length, Option}
+use Rattle.execute.specs.declared.edition.Edition.{Edition}
 use Rattle.memory.specs.Log.{entry_of, Logged}
 use Rattle.memory.specs.Memory.{Memory}
 use Rattle.memory.specs.Outcome as outcome
@@ -9,11 +10,11 @@ use Rattle.emulator.specs.declared.core_record.Core.{Core}
 use Rattle.memory.specs.declared.log.Purpose.{Purpose}
 use Rattle.run_laws.specs.Agreement.{HasRoom}
 
--- a logged run that doesn't end by 30 is the run without a log with the same rights, in everything
+-- a logged run that doesn't end by 30 is the run without a log with the same rights and in the same edition, in everything
 abbrev pub LoggedIsPlain : Type 0
 LoggedIsPlain =
     (given : Setting) (c : Core) (m : Memory) (limit : ℕ) → HasRoom (run_in plan_of given c m limit)
-    → run_in plan_of given c m limit ≡ run_in plan_of (unlogged given.rights) c m limit
+    → run_in plan_of given c m limit ≡ run_in plan_of (unlogged given.rights given.edition) c m limit
 
 -- one that ends by 30 is the run without a log with the limit set to its steps, but for the end
 abbrev pub cut_at : Logged (Ran Memory) → Ran Memory
@@ -22,7 +23,7 @@ cut_at r = ran outcome.limit r.result.steps r.result.core r.result.memory
 abbrev pub FullIsPlain : Type 0
 FullIsPlain =
     (given : Setting) (c : Core) (m : Memory) (limit : ℕ) → (run_in plan_of given c m limit).result.end ≡ outcome.ended 30
-    → (run_in plan_of (unlogged given.rights) c m (run_in plan_of given c m limit).result.steps).result ≡ cut_at (run_in plan_of given c m limit)
+    → (run_in plan_of (unlogged given.rights given.edition) c m (run_in plan_of given c m limit).result.steps).result ≡ cut_at (run_in plan_of given c m limit)
 
 -- the log of n reads
 pub data Reads : ℕ → List ℕ → Type 0 where
@@ -39,8 +40,8 @@ pub record AtMost (most : ℕ) (l : List ℕ) : Type 0 where
 -- buffer that is lent for it.
 pub record LogSize : Type 0 where
   pub two_words : {n : ℕ} {l : List ℕ} → Reads n l → length l ≡ 2 * n
-  pub two_reads : (rights : Option (List ℕ)) (c : Core) (m : Memory) → AtMost 2 (cycle_of (memory_store rights) plan_of c m).log
+  pub two_reads : (rights : Option (List ℕ)) (edition : Edition) (c : Core) (m : Memory) → AtMost 2 (cycle_of (memory_store rights) (plan_of edition) c m).log
   pub run_reads : (given : Setting) (c : Core) (m : Memory) (limit : ℕ)
       → AtMost (2 * (run_in plan_of given c m limit).result.steps + 1) (run_in plan_of given c m limit).log
-  pub in_buffer : (c : Core) (m : Memory) (limit : ℕ) (buffer : List ℕ) (rights : Option (List ℕ))
-      → length (run_in plan_of (logging_in buffer rights) c m limit).log ≤ length buffer
+  pub in_buffer : (c : Core) (m : Memory) (limit : ℕ) (buffer : List ℕ) (rights : Option (List ℕ)) (edition : ℕ)
+      → length (run_in plan_of (logging_in buffer rights edition) c m limit).log ≤ length buffer

@@ -3,7 +3,7 @@ use Rattle.std.specs.Prelude.{ℕ, ◌<◌, ◌≡◌, ◌^◌, true, false, Lis
 use Rattle.memory.specs.Log.{address_word, Logged, Room}
 use Rattle.memory.specs.Memory.{Memory, was_read, was_written}
 use Rattle.memory.specs.Rights.{right_of, has_right}
-use Rattle.emulator.specs.Machine.{plan_of, Ran, Setting, setting, refusal_with, run_in}
+use Rattle.emulator.specs.Machine.{plan_of, Ran, Setting, setting, refusal_in, run_in}
 use Rattle.emulator.specs.declared.core_record.Core.{Core}
 use Rattle.memory.specs.declared.log.Purpose.{Purpose}
 use Rattle.memory.specs.declared.rights.Right.{Right}
@@ -39,26 +39,26 @@ pub record AgreeButClosed (rights : Option (List ℕ)) (m m' : Memory) (r q : Lo
 -- of every accepted run
 pub record Isolation : Type 0 where
   -- every address, which is a 16-bit word, on a page without any right
-  pub untouched : (given : Setting) (c : Core) (m : Memory) (limit a : ℕ) → a < 2 ^ 16 → refusal_with given.rights m ≡ 0 → Closed given.rights a
+  pub untouched : (given : Setting) (c : Core) (m : Memory) (limit a : ℕ) → a < 2 ^ 16 → refusal_in given m ≡ 0 → Closed given.rights a
       → Untouched m a (run_in plan_of given c m limit)
   -- two runs whose memories differ only on such pages
   pub unseen : (given : Setting) (c : Core) (m m' : Memory) (limit : ℕ)
-      → refusal_with given.rights m ≡ 0 → refusal_with given.rights m' ≡ 0 → length m.words ≡ length m'.words → EqualButClosed given.rights m m'
+      → refusal_in given m ≡ 0 → refusal_in given m' ≡ 0 → length m.words ≡ length m'.words → EqualButClosed given.rights m m'
       → AgreeButClosed given.rights m m' (run_in plan_of given c m limit) (run_in plan_of given c m' limit)
   -- a page without write keeps its words, and no mark on it includes 2
-  pub unwritten : (given : Setting) (c : Core) (m : Memory) (limit a : ℕ) → refusal_with given.rights m ≡ 0 → Lacks given.rights Right.Write a
+  pub unwritten : (given : Setting) (c : Core) (m : Memory) (limit a : ℕ) → refusal_in given m ≡ 0 → Lacks given.rights Right.Write a
       → (word_at (run_in plan_of given c m limit).result.memory a ≡ word_at m a)
       × (was_written (mark_at (run_in plan_of given c m limit).result.memory a) ≡ 0)
   -- an address on a page without read and execute is never marked 1
-  pub unread : (given : Setting) (c : Core) (m : Memory) (limit a : ℕ) → refusal_with given.rights m ≡ 0
+  pub unread : (given : Setting) (c : Core) (m : Memory) (limit a : ℕ) → refusal_in given m ≡ 0
       → Lacks given.rights Right.Read a → Lacks given.rights Right.Execute a
       → was_read (mark_at (run_in plan_of given c m limit).result.memory a) ≡ 0
   -- no log word names an address as read for a purpose whose right its page lacks
-  pub unnamed : (given : Setting) (c : Core) (m : Memory) (limit a : ℕ) (p : Purpose) → a < 2 ^ 16 → refusal_with given.rights m ≡ 0
+  pub unnamed : (given : Setting) (c : Core) (m : Memory) (limit a : ℕ) (p : Purpose) → a < 2 ^ 16 → refusal_in given m ≡ 0
       → Lacks given.rights (right_of p) a → Unnamed p a (run_in plan_of given c m limit).log
 
 -- a run with 256 sevens is the run without rights, refusals too, with a log or without
 abbrev pub SevensArePlain : Type 0
 SevensArePlain =
-    (room : Room) (c : Core) (m : Memory) (limit : ℕ)
-    → run_in plan_of (setting room (Some (replicate 256 7))) c m limit ≡ run_in plan_of (setting room None) c m limit
+    (room : Room) (edition : ℕ) (c : Core) (m : Memory) (limit : ℕ)
+    → run_in plan_of (setting room (Some (replicate 256 7)) edition) c m limit ≡ run_in plan_of (setting room None edition) c m limit

@@ -1,4 +1,5 @@
--- Words a planner would recognise (document 01): the twelve rows.
+-- Words a planner would recognise (document 01): the twelve rows, in edition 1; and what edition 2 does in the place of stops 13 and 14 (document 02,
+-- CR 5).
 use Rattle.std.specs.Prelude.{ℕ, List, [], ◌∷◌, ◌++◌, ◌≡◌, replicate, Result, Ok}
 use Rattle.instructions.specs.Decoding.{decode_of, no_instruction}
 use Rattle.instructions.specs.Encoding.{encode_of}
@@ -28,23 +29,26 @@ core a b ip = core_of (a ∷ b ∷ replicate 6 0) ip 0 0xFFFF 0
 abbrev pub step_seen : Turn Memory → Seen
 step_seen t = step t.outcome t.core
 
--- a step of the word w, which stands at address 0, with a and b in r0 and r1
+-- a step, in an edition, of the word w, which stands at address 0, with a and b in r0 and r1
+abbrev pub stepped_in : ℕ → ℕ → ℕ → ℕ → Seen
+stepped_in edition w a b = step_seen (step_of plan_of (core a b 0) (lent (w ∷ []) (0 ∷ [])) edition)
+
 abbrev pub stepped_at_0 : ℕ → ℕ → ℕ → Seen
-stepped_at_0 w a b = step_seen (step_of plan_of (core a b 0) (lent (w ∷ []) (0 ∷ [])))
+stepped_at_0 = stepped_in 1
 
 abbrev pub run_seen : Ran Memory → Seen
 run_seen r = run r.end r.steps r.core r.memory.marks
 
 -- a fresh core pushes, in memory of 1 + more words
 abbrev pub fresh_push : ℕ → Seen
-fresh_push more = step_seen (step_of plan_of new_core (lent (0x23D0 ∷ replicate more 0) (0 ∷ replicate more 0)))
+fresh_push more = step_seen (step_of plan_of new_core (lent (0x23D0 ∷ replicate more 0) (0 ∷ replicate more 0)) 1)
 
 abbrev pub pushed : Core
 pushed = core_of (replicate 8 0) 1 0 0xFFFE 0
 
 -- memory of just the words 0x1003, 0xFFFF, core fresh
 abbrev pub two_words : ℕ → Seen
-two_words most = run_seen (run_of plan_of new_core (lent (0x1003 ∷ 0xFFFF ∷ []) (0 ∷ 0 ∷ [])) most)
+two_words most = run_seen (run_of plan_of new_core (lent (0x1003 ∷ 0xFFFF ∷ []) (0 ∷ 0 ∷ [])) 1 most)
 
 abbrev pub halted_core : Core
 halted_core = core_of (replicate 8 0) 0 0 0xFFFF 1
@@ -59,14 +63,16 @@ computed =
     ∷ word (encode_of (Movsi SP R1))
     -- 6, 7
     ∷ fresh_push 65535 ∷ fresh_push 32767
-    ∷ step_seen (step_of plan_of (core 0 0 5) (lent (replicate 5 0 ++ 0x60FF ∷ []) (replicate 6 0)))
+    ∷ step_seen (step_of plan_of (core 0 0 5) (lent (replicate 5 0 ++ 0x60FF ∷ []) (replicate 6 0)) 1)
     -- 8, 9, 10
     ∷ stepped_at_0 0x4810 0xFFFF 0 ∷ stepped_at_0 0x4B10 0x0100 0x0100
     ∷ stepped_at_0 0x4410 1 15 ∷ stepped_at_0 0x4410 1 16
     ∷ stepped_at_0 0x4800 1 0 ∷ stepped_at_0 0x4800 0x8000 0
     -- 11, 12
-    ∷ run_seen (run_of plan_of halted_core (lent (0 ∷ []) (0 ∷ [])) 0)
-    ∷ two_words 2 ∷ two_words 1 ∷ []
+    ∷ run_seen (run_of plan_of halted_core (lent (0 ∷ []) (0 ∷ [])) 1 0)
+    ∷ two_words 2 ∷ two_words 1
+    -- in edition 2: shl and shr by 16, bitset at 16, neg of 0x8000
+    ∷ stepped_in 2 0x4410 1 16 ∷ stepped_in 2 0x4510 1 16 ∷ stepped_in 2 0x4710 0xFFFF 16 ∷ stepped_in 2 0x4800 0x8000 0 ∷ []
 
 abbrev pub expected : List Seen
 expected =
@@ -82,7 +88,8 @@ expected =
     ∷ step stepped (core 0xFFFF 0 1) ∷ step (fault 14 0x8000) (core 0x8000 0 1)
     ∷ run halted 0 halted_core (0 ∷ [])
     ∷ run halted 2 (core_of (3 ∷ replicate 7 0) 2 0 0xFFFF 1) (1 ∷ 1 ∷ [])
-    ∷ run limit 1 (core_of (3 ∷ replicate 7 0) 1 0 0xFFFF 0) (1 ∷ 0 ∷ []) ∷ []
+    ∷ run limit 1 (core_of (3 ∷ replicate 7 0) 1 0 0xFFFF 0) (1 ∷ 0 ∷ [])
+    ∷ step stepped (core 0 16 1) ∷ step stepped (core 0 16 1) ∷ step stepped (core 0xFFFF 16 1) ∷ step stepped (core 0x8000 0 1) ∷ []
 
 abbrev pub Rows : Type 0
 Rows = computed ≡ expected

@@ -2,20 +2,22 @@
 use Rattle.std.specs.Prelude.{not, if◌then◌else◌}
 use Prim.Native.Nat.{ℕ, suc, ◌+◌, ◌*◌, ◌-◌, ◌<◌, ◌≤◌}
 use mathlib.Core.Bool.{Bool, true, false}
-use mathlib.Core.List.{List, [], ◌∷◌, ◌++◌}
+use mathlib.Core.List.{List, [], ◌∷◌, ◌++◌, append_assoc}
 use mathlib.Core.Path.{◌≡◌, refl, sym, ap, ◌∙◌}
 use native.Mathlib.Numerals.{add-one}
-use native.Mathlib.Nat.{zero-add}
+use native.Mathlib.Nat.{zero-add, add_assoc}
 use native.Mathlib.Omega.{arith}
-use lib.ListN.{length, get_or, set, drop, length-set, length-append, drop_of_length-le}
+use lib.ListN.{length, get_or, set, drop, replicate, length-set, length-append, length-drop, drop_of_length-le}
 use lib.Seq.{sets, drop-cons, length-sets}
 use lib.Dec.{eqb}
-use borrow.Author.Tests.{eq-eqb, ne_eqb}
+use borrow.Author.Tests.{eq-eqb, ne_eqb, eqb-true, eqb-false}
+use Rattle.std.proofs.Common.{drop-drop}
+use Rattle.instructions.proofs.Cases.{by_test}
 use Rattle.instructions.specs.Bounded.{Bounded}
 use Rattle.emulator.specs.declared.core_record.Core.{Core}
 use Rattle.std.proofs.lemmas.List.Sums.{count_by-le-length}
 use Rattle.sheet.specs.Record.{register_of}
-use Rattle.sheet.specs.Write.{place_record, word_record, preset_record, end_record, presets_from, records_at, stretches_from, words_in, sheet_of}
+use Rattle.sheet.specs.Write.{place_record, word_record, preset_record, edition_record, end_record, edition_records, presets_from, records_at, stretches_from, words_in, sheet_of}
 use Rattle.memory.proofs.Stores.{sets_append, sets_front}
 
 -- the records of one word
@@ -125,26 +127,66 @@ pub stretching_done : (mem s₀ s : List ℕ) (at b i : ℕ) → Stretching mem 
 unfolding stretches_from
 stretching_done mem s₀ s at b i t l = rw (drop_of_length-le mem l) at t.rest
 
--- the sheet's length, and the sheet as three runs of stores
 length_presets : (c : Core) → length (presets_from c 12 0) ≡ 12
 unfolding presets_from
 length_presets c = refl
 
-pub length_sheet : (c : Core) (mem : List ℕ) → length (sheet_of c mem) ≡ 12 + length (stretches_from 0 0 mem) + 1
+-- the sheet after its edition: the presets, the stretches and the end
+abbrev pub body : Core → List ℕ → List ℕ
+body c mem = presets_from c 12 0 ++ (stretches_from 0 0 mem ++ end_record (words_in mem) ∷ [])
+
+pub sheet_parts : (c : Core) (ed : ℕ) (mem : List ℕ) → sheet_of c ed mem ≡ edition_records ed ++ body c mem
 unfolding sheet_of
-length_sheet c mem = simp (length-append, length_presets)
+sheet_parts c ed mem =
+    let es = edition_records ed in
+    let ps = presets_from c 12 0 in
+    let ss = stretches_from 0 0 mem in
+    let last : List ℕ = end_record (words_in mem) ∷ [] in
+    rw (append_assoc (es ++ ps) ss last, append_assoc es ps (ss ++ last))
 
-three_runs : (ps ss s : List ℕ) (x : ℕ) → set (sets (sets s 0 ps) (length ps) ss) (length ps + length ss) x ≡ sets s 0 (ps ++ ss ++ x ∷ [])
-three_runs ps ss s x = rw (sets_append (ps ++ ss) (x ∷ []) s 0, sets_append ps ss s 0, length-append ps ss, zero-add (length ps), zero-add (length ps + length ss))
+length_body : (c : Core) (mem : List ℕ) → length (body c mem) ≡ 12 + length (stretches_from 0 0 mem) + 1
+length_body c mem = simp (length-append, length_presets, ← add_assoc 12 (length (stretches_from 0 0 mem)) 1)
 
-sheet_put : (c : Core) (mem s : List ℕ) → set (sets (sets s 0 (presets_from c 12 0)) 12 (stretches_from 0 0 mem)) (12 + length (stretches_from 0 0 mem)) (end_record (words_in mem)) ≡ sets s 0 (sheet_of c mem)
-unfolding sheet_of
-sheet_put c mem s = rw (length_presets c) at (three_runs (presets_from c 12 0) (stretches_from 0 0 mem) s (end_record (words_in mem)))
+pub length_sheet : (c : Core) (ed : ℕ) (mem : List ℕ) → length (sheet_of c ed mem) ≡ length (edition_records ed) + (12 + length (stretches_from 0 0 mem)) + 1
+length_sheet c ed mem =
+    let b = length_body c mem in
+    let e = ap length (sheet_parts c ed mem) ∙ length-append (edition_records ed) (body c mem) in
+    omega arith
 
-pub sheet_in_front : (c : Core) (mem s : List ℕ) → 12 + length (stretches_from 0 0 mem) < length s
+-- the body as three runs of stores
+three_runs : (ps ss s : List ℕ) (x : ℕ) → set (sets (sets s 0 ps) (length ps) ss) (length ps + length ss) x ≡ sets s 0 (ps ++ (ss ++ x ∷ []))
+three_runs ps ss s x = rw (sets_append ps (ss ++ x ∷ []) s 0, zero-add (length ps), sets_append ss (x ∷ []) (sets s 0 ps) (length ps))
+
+body_in_front : (c : Core) (mem s : List ℕ) → 12 + length (stretches_from 0 0 mem) < length s
     → set (sets (sets s 0 (presets_from c 12 0)) 12 (stretches_from 0 0 mem)) (12 + length (stretches_from 0 0 mem)) (end_record (words_in mem))
-    ≡ sheet_of c mem ++ drop (length (sheet_of c mem)) s
-sheet_in_front c mem s l = let e = length_sheet c mem in sheet_put c mem s ∙ sets_front (sheet_of c mem) s (omega arith)
+    ≡ body c mem ++ drop (length (body c mem)) s
+body_in_front c mem s l =
+    let e = length_body c mem in
+    (rw (length_presets c) at (three_runs (presets_from c 12 0) (stretches_from 0 0 mem) s (end_record (words_in mem)))) ∙ sets_front (body c mem) s (omega arith)
+
+-- the edition's records, none or one
+pub no_edition : (ed : ℕ) → (ed ≡ 2 → ⊥) → edition_records ed ≡ []
+unfolding edition_records
+no_edition ed n = rw (ne_eqb ed 2 n)
+
+pub one_edition : (ed : ℕ) → ed ≡ 2 → edition_records ed ≡ edition_record ed ∷ []
+unfolding edition_records
+one_edition ed z = rw (eq-eqb ed 2 z)
+
+filled : (ed : ℕ) → replicate (length (edition_records ed)) (edition_record ed) ≡ edition_records ed
+filled ed = by_test (eqb ed 2) (λ t. rw (one_edition ed (eqb-true ed 2 t))) (λ f. rw (no_edition ed (eqb-false ed 2 f)))
+
+-- behind them the body, and what the buffer held past it
+behind : (es bs s : List ℕ) → es ++ (bs ++ drop (length bs) (drop (length es) s)) ≡ es ++ bs ++ drop (length (es ++ bs)) s
+behind es bs s = rw (drop-drop (length bs) (length es) s, length-append es bs, append_assoc es bs (drop (length es + length bs) s))
+
+pub sheet_in_front : (c : Core) (ed : ℕ) (mem s : List ℕ) → length (edition_records ed) + (12 + length (stretches_from 0 0 mem)) < length s
+    → replicate (length (edition_records ed)) (edition_record ed)
+    ++ set (sets (sets (drop (length (edition_records ed)) s) 0 (presets_from c 12 0)) 12 (stretches_from 0 0 mem)) (12 + length (stretches_from 0 0 mem)) (end_record (words_in mem))
+    ≡ sheet_of c ed mem ++ drop (length (sheet_of c ed mem)) s
+sheet_in_front c ed mem s l =
+    let left = length-drop (length (edition_records ed)) s in
+    rw (sheet_parts c ed mem, filled ed, body_in_front c mem (drop (length (edition_records ed)) s) (omega arith)) (behind (edition_records ed) (body c mem) s)
 
 -- no more words are nonzero than there are
 pub words_few : (mem : List ℕ) → words_in mem ≤ length mem

@@ -1,4 +1,4 @@
--- Loading (document 01, The rule sheet; Stops).
+-- Loading (document 01, The rule sheet; Stops, and document 02, CR 5).
 use Rattle.std.specs.Prelude.{ℕ, Result, Ok, Err, ◌+◌, ◌-◌, List, [], ◌∷◌, ◌++◌, length, set, replicate, ltb, eqb, if◌then◌else◌}
 use Rattle.emulator.specs.declared.core_record.Core.{Core}
 use Rattle.emulator.specs.Core.{new_core}
@@ -7,67 +7,69 @@ use Rattle.memory.specs.declared.refusal.Refusal.TheVariants.{MemoryLength}
 use Rattle.sheet.specs.declared.refusal.SheetRefusal.{SheetRefusal}
 use Rattle.sheet.specs.declared.refusal.SheetRefusal.TheVariants.{Host, LongList, PastMemory, NoEnd, AfterEnd, WrongCount}
 use Rattle.sheet.specs.declared.fields.Record.{Record}
-use Rattle.sheet.specs.declared.fields.Record.TheVariants.{Place, Word, Preset, End}
+use Rattle.sheet.specs.declared.fields.Record.TheVariants.{Place, Word, Preset, Edition, End}
 use Rattle.sheet.specs.Record.{record_of, with_register}
 
--- what a load leaves: its answer, the core, and what the lent memory holds
+-- what a load leaves: its answer, the core, the number of the edition, and what the lent memory holds
 pub record Left : Type 0 where
   pub answer : Result (Unit {0}) SheetRefusal
   pub core : Core
+  pub edition : ℕ
   pub memory : List ℕ
 
-abbrev pub left : Result (Unit {0}) SheetRefusal → Core → List ℕ → Left
-left x c mem = record { answer = x; core = c; memory = mem }
+abbrev pub left : Result (Unit {0}) SheetRefusal → Core → ℕ → List ℕ → Left
+left x c ed mem = record { answer = x; core = c; edition = ed; memory = mem }
 
--- a refused load hands back a fresh core and changes nothing
+-- a refused load hands back a fresh core and edition 1 and changes nothing
 abbrev pub refused_with : SheetRefusal → List ℕ → Left
-refused_with r mem = left (Err r) new_core mem
+refused_with r mem = left (Err r) new_core 1 mem
 
 -- a plain word list (`with_content`): host test 1, then whether it is longer than memory; else memory is the words from address 0 on, and 0 past
--- them
+-- them; its edition is 1
 unfoldable pub load_words_of : List ℕ → List ℕ → Left
 load_words_of words mem =
     if refused_length (length mem) then refused_with (Host MemoryLength) mem
     else if ltb (length mem) (length words) then refused_with LongList mem
-    else left (Ok tt) new_core (words ++ replicate (length mem - length words) 0)
+    else left (Ok tt) new_core 1 (words ++ replicate (length mem - length words) 0)
 
--- what a sheet gives: the core and the memory that it describes, or the first test that failed
+-- what a sheet gives: the core, the edition and the memory that it describes, or the first test that failed
 pub data Reading : Type 0 where
-  gives : Core → List ℕ → Reading
+  gives : Core → ℕ → List ℕ → Reading
   fails : SheetRefusal → Reading
 
 -- after an accepted end: no records
-abbrev pub closed : List ℕ → Core → List ℕ → Reading
-closed [] c mem = Reading.gives c mem
-closed (w ∷ ws) c mem = Reading.fails AfterEnd
+abbrev pub closed : List ℕ → Core → ℕ → List ℕ → Reading
+closed [] c ed mem = Reading.gives c ed mem
+closed (w ∷ ws) c ed mem = Reading.fails AfterEnd
 
 -- one record, with the records ws after it, where the load address is a and n word records came before; `more` reads ws
-abbrev pub record_reads : Result Record SheetRefusal → List ℕ → (ℕ → ℕ → Core → List ℕ → Reading) → ℕ → ℕ → Core → List ℕ → Reading
-record_reads (Ok (Place p)) ws more a n c mem = more p n c mem
-record_reads (Ok (Word v)) ws more a n c mem = if ltb a (length mem) then more (a + 1) (n + 1) c (set mem a v) else Reading.fails PastMemory
-record_reads (Ok (Preset r v)) ws more a n c mem = more a n (with_register c r v) mem
-record_reads (Ok (End k)) ws more a n c mem = if eqb k n then closed ws c mem else Reading.fails WrongCount
-record_reads (Err k) ws more a n c mem = Reading.fails k
+abbrev pub record_reads : Result Record SheetRefusal → List ℕ → (ℕ → ℕ → Core → ℕ → List ℕ → Reading) → ℕ → ℕ → Core → ℕ → List ℕ → Reading
+record_reads (Ok (Place p)) ws more a n c ed mem = more p n c ed mem
+record_reads (Ok (Word v)) ws more a n c ed mem = if ltb a (length mem) then more (a + 1) (n + 1) c ed (set mem a v) else Reading.fails PastMemory
+record_reads (Ok (Preset r v)) ws more a n c ed mem = more a n (with_register c r v) ed mem
+record_reads (Ok (Edition e)) ws more a n c ed mem = more a n c e mem
+record_reads (Ok (End k)) ws more a n c ed mem = if eqb k n then closed ws c ed mem else Reading.fails WrongCount
+record_reads (Err k) ws more a n c ed mem = Reading.fails k
 
 -- the records in order, up to an end record
-unfoldable pub read_from : List ℕ → ℕ → ℕ → Core → List ℕ → Reading
-read_from [] a n c mem = Reading.fails NoEnd
-read_from (w ∷ ws) a n c mem = record_reads (record_of w) ws (read_from ws) a n c mem
+unfoldable pub read_from : List ℕ → ℕ → ℕ → Core → ℕ → List ℕ → Reading
+read_from [] a n c ed mem = Reading.fails NoEnd
+read_from (w ∷ ws) a n c ed mem = record_reads (record_of w) ws (read_from ws) a n c ed mem
 
--- the sheet, for a memory of `size` words: load address 0, no word records, a fresh core and zero memory
+-- the sheet, for a memory of `size` words: load address 0, no word records, a fresh core, edition 1 and zero memory
 abbrev pub sheet_reads : List ℕ → ℕ → Reading
-sheet_reads sheet size = read_from sheet 0 0 new_core (replicate size 0)
+sheet_reads sheet size = read_from sheet 0 0 new_core 1 (replicate size 0)
 
 -- whether the sheet passes, after host test 1, and what is left then
 abbrev pub tested_of : Reading → Result (Unit {0}) SheetRefusal
-tested_of (Reading.gives c mem) = Ok tt
+tested_of (Reading.gives c ed mem) = Ok tt
 tested_of (Reading.fails k) = Err k
 
 abbrev pub sheet_test : List ℕ → ℕ → Result (Unit {0}) SheetRefusal
 sheet_test sheet size = if refused_length size then Err (Host MemoryLength) else tested_of (sheet_reads sheet size)
 
 abbrev pub settled : List ℕ → Reading → Left
-settled mem (Reading.gives c mem') = left (Ok tt) c mem'
+settled mem (Reading.gives c ed mem') = left (Ok tt) c ed mem'
 settled mem (Reading.fails k) = refused_with k mem
 
 -- a rule sheet: host test 1, then the sheet

@@ -1,8 +1,8 @@
--- Why a load, a write or an input is refused (document 01, Stops).
+-- Why a load, a write or an input is refused (document 01, Stops, and document 02, CR 5).
 use Rattle.std.specs.Prelude.{ℕ}
 use Rattle.memory.specs.Outcome.{refusal_number}
 use Rattle.sheet.specs.declared.refusal.SheetRefusal.{SheetRefusal}
-use Rattle.sheet.specs.declared.refusal.SheetRefusal.TheVariants.{Host, LongList, ShortBuffer, UnknownKind, NonzeroBit, UnknownRegister, PastMemory, NoEnd, AfterEnd, WrongCount, Input}
+use Rattle.sheet.specs.declared.refusal.SheetRefusal.TheVariants.{Host, LongList, ShortBuffer, UnknownKind, NonzeroBit, UnknownRegister, UnknownEdition, PastMemory, NoEnd, AfterEnd, WrongCount, Input}
 
 -- the documents' numbers
 abbrev pub sheet_refusal_number : SheetRefusal → ℕ
@@ -12,6 +12,7 @@ sheet_refusal_number ShortBuffer = 4
 sheet_refusal_number UnknownKind = 20
 sheet_refusal_number NonzeroBit = 21
 sheet_refusal_number UnknownRegister = 22
+sheet_refusal_number UnknownEdition = 34
 sheet_refusal_number PastMemory = 23
 sheet_refusal_number NoEnd = 24
 sheet_refusal_number AfterEnd = 25

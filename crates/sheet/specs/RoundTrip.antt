@@ -1,6 +1,8 @@
--- The round trip (document 01, The rule sheet): loading the sheet that the writer gives, into memory of the same length, restores core and
--- memory. That every value is a 16-bit word and that there are eight general registers is assumed here; the types of the code say so.
-use Rattle.std.specs.Prelude.{ℕ, Ok, ◌^◌, ◌<◌, ◌≤◌, List, ◌≡◌, length, get_or}
+-- The round trip (document 01, The rule sheet, and document 02, CR 5): loading the sheet that the writer gives, into memory of the same length,
+-- restores core, edition and memory. That every value is a 16-bit word and that there are eight general registers is assumed here; the types of
+-- the code say so.
+use Rattle.std.specs.Prelude.{ℕ, false, Ok, ◌^◌, ◌<◌, ◌≤◌, List, ◌≡◌, length, get_or}
+use Rattle.execute.specs.Edition.{refused_edition}
 use Rattle.emulator.specs.declared.core_record.Core.{Core}
 use Rattle.sheet.specs.Load.{left, load_sheet_of}
 use Rattle.sheet.specs.Write.{sheet_of}
@@ -19,5 +21,6 @@ pub record WholeCore (c : Core) : Type 0 where
 -- `held` is whatever the memory held that is loaded into
 abbrev pub RoundTrip : Type 0
 RoundTrip =
-    (c : Core) (mem held : List ℕ) → WholeCore c → Words mem → 1 ≤ length mem → length mem ≤ 65536 → length held ≡ length mem
-    → load_sheet_of (sheet_of c mem) held ≡ left (Ok tt) c mem
+    (c : Core) (ed : ℕ) (mem held : List ℕ) → WholeCore c → refused_edition ed ≡ false → Words mem → 1 ≤ length mem → length mem ≤ 65536
+    → length held ≡ length mem
+    → load_sheet_of (sheet_of c ed mem) held ≡ left (Ok tt) c ed mem

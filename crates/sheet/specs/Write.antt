@@ -1,10 +1,11 @@
--- Writing a rule sheet (document 01, The rule sheet; Stops).
+-- Writing a rule sheet (document 01, The rule sheet; Stops, and document 02, CR 5).
 use Rattle.std.specs.Prelude.{ℕ, Result, Ok, Err, zero, suc, ◌+◌, ◌*◌, ◌^◌, List, [], ◌∷◌, ◌++◌, length, drop, count_by, not, ltb, eqb, if◌then◌else◌}
 use Rattle.emulator.specs.declared.core_record.Core.{Core}
+use Rattle.execute.specs.Edition.{refused_edition}
 use Rattle.memory.specs.Memory.{refused_length}
 use Rattle.memory.specs.declared.refusal.Refusal.TheVariants.{MemoryLength}
 use Rattle.sheet.specs.declared.refusal.SheetRefusal.{SheetRefusal}
-use Rattle.sheet.specs.declared.refusal.SheetRefusal.TheVariants.{Host, ShortBuffer}
+use Rattle.sheet.specs.declared.refusal.SheetRefusal.TheVariants.{Host, ShortBuffer, UnknownEdition}
 use Rattle.sheet.specs.Record.{register_of}
 
 -- what a write leaves: how many records it wrote, and what the lent buffer holds
@@ -19,7 +20,7 @@ wrote x b = record { answer = x; buffer = b }
 abbrev pub in_front : List ℕ → List ℕ → Wrote
 in_front rs buffer = wrote (Ok (length rs)) (rs ++ drop (length rs) buffer)
 
--- the four kinds of record
+-- the five kinds of record
 abbrev pub place_record : ℕ → ℕ
 place_record a = 1 * 2 ^ 28 + a
 
@@ -29,8 +30,15 @@ word_record v = 2 * 2 ^ 28 + v
 abbrev pub preset_record : ℕ → ℕ → ℕ
 preset_record r v = 3 * 2 ^ 28 + r * 2 ^ 16 + v
 
+abbrev pub edition_record : ℕ → ℕ
+edition_record n = 7 * 2 ^ 28 + n
+
 abbrev pub end_record : ℕ → ℕ
 end_record n = 15 * 2 ^ 28 + n
+
+-- the record of the edition, for edition 2 only
+unfoldable pub edition_records : ℕ → List ℕ
+edition_records ed = if eqb ed 2 then edition_record ed ∷ [] else []
 
 -- the presets of k registers from r on
 unfoldable pub presets_from : Core → ℕ → ℕ → List ℕ
@@ -53,13 +61,14 @@ stretches_from a before (v ∷ vs) = records_at a before v ++ stretches_from (a 
 abbrev pub words_in : List ℕ → ℕ
 words_in = count_by (λ v. not (eqb v 0))
 
--- the sheet: presets 0 to 11, the stretches, and the end with the number of word records
-unfoldable pub sheet_of : Core → List ℕ → List ℕ
-sheet_of c mem = presets_from c 12 0 ++ stretches_from 0 0 mem ++ end_record (words_in mem) ∷ []
+-- the sheet: the edition, presets 0 to 11, the stretches, and the end with the number of word records
+unfoldable pub sheet_of : Core → ℕ → List ℕ → List ℕ
+sheet_of c ed mem = edition_records ed ++ presets_from c 12 0 ++ stretches_from 0 0 mem ++ end_record (words_in mem) ∷ []
 
--- writing it: host test 1, then whether the buffer is too short
-unfoldable pub write_sheet_of : Core → List ℕ → List ℕ → Wrote
-write_sheet_of c mem sheet =
+-- writing it: host test 1, then whether the edition is neither 1 nor 2, then whether the buffer is too short
+unfoldable pub write_sheet_of : Core → ℕ → List ℕ → List ℕ → Wrote
+write_sheet_of c ed mem sheet =
     if refused_length (length mem) then wrote (Err (Host MemoryLength)) sheet
-    else if ltb (length sheet) (length (sheet_of c mem)) then wrote (Err ShortBuffer) sheet
-    else in_front (sheet_of c mem) sheet
+    else if refused_edition ed then wrote (Err UnknownEdition) sheet
+    else if ltb (length sheet) (length (sheet_of c ed mem)) then wrote (Err ShortBuffer) sheet
+    else in_front (sheet_of c ed mem) sheet

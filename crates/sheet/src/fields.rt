@@ -4,6 +4,7 @@ ghost use Rattle.sheet.specs.Record.{record_of, register_of, with_register};
 
 use crate::refusal::SheetRefusal;
 use emulator::Core;
+use execute::Edition;
 use instructions::{GPR, Register, SPR};
 
 #[derive(Clone, Copy, Debug, PartialEq, Eq)]
@@ -12,6 +13,8 @@ pub enum Record {
     Word(u16),
     // The register's number as the record has it, 0 to 11, and its value.
     Preset(u8, u16),
+    // Its number, 1 or 2.
+    Edition(u16),
     // The number of word records.
     End(u32),
 }
@@ -32,6 +35,11 @@ pub fn record_of(w: u32) -> Result<Record, SheetRefusal>
         0x3000..=0x300B => Ok(Record::Preset((upper % 0x10) as u8, low)),
         0x300C..=0x300F => Err(SheetRefusal::UnknownRegister),
         0x1001..=0x3FFF => Err(SheetRefusal::NonzeroBit),
+        0x7000 => match Edition::at(low) {
+            Some(_) => Ok(Record::Edition(low)),
+            None => Err(SheetRefusal::UnknownEdition),
+        },
+        0x7001..=0x7FFF => Err(SheetRefusal::NonzeroBit),
         0xF000..=0xFFFF => Ok(Record::End(w % 0x10000000)),
         _ => Err(SheetRefusal::UnknownKind),
     }

@@ -8,17 +8,19 @@ use crate::refusal::SheetRefusal;
 use emulator::Core;
 use memory::check_length;
 
-// What a load comes to. A refused one hands back a fresh core.
+// What a load comes to. A refused one hands back a fresh core and edition 1.
 #[derive(Clone, Copy)]
 pub struct Load {
     pub core: Core,
+    // Its number. A plain word list is of edition 1.
+    pub edition: u16,
     pub answer: Result<(), SheetRefusal>,
 }
 
 // Memory becomes the words from address 0 on, and 0 past them.
 #[tactic(auto, unfolding(crate::specs::Load::load_words_of))]
 fn put_words(words: &[u16], memory: &mut [u16]) -> Result<(), SheetRefusal>
-    ensures { left result new_core memory.new ≡ load_words_of words.now memory.old }
+    ensures { left result new_core 1 memory.new ≡ load_words_of words.now memory.old }
 {
     check_length(memory.len())?;
     if memory.len() < words.len() {
@@ -32,11 +34,12 @@ fn put_words(words: &[u16], memory: &mut [u16]) -> Result<(), SheetRefusal>
 
 // Loads a plain word list.
 pub fn load_words(words: &[u16], memory: &mut [u16]) -> Load
-    ensures { left result.answer result.core memory.new ≡ load_words_of words.now memory.old }
+    ensures { left result.answer result.core result.edition memory.new ≡ load_words_of words.now memory.old }
 {
     let answer = put_words(words, memory);
     Load {
         core: Core::new(),
+        edition: 1,
         answer,
     }
 }
@@ -64,6 +67,7 @@ fn test_records(sheet: &[u32], size: usize) -> Result<(), SheetRefusal>
                 words += 1;
             }
             Record::Preset(_, _) => {}
+            Record::Edition(_) => {}
             Record::End(count) => {
                 if count as usize != words {
                     return Err(SheetRefusal::WrongCount);
@@ -88,12 +92,13 @@ fn test_sheet(sheet: &[u32], size: usize) -> Result<(), SheetRefusal>
 
 // What a sheet that passed its tests does. It cannot fail any more: its end record is the last, and every word has its place.
 #[tactic(auto, using(crate::proofs::SheetLaws::applying))]
-fn apply_sheet(sheet: &[u32], memory: &mut [u16]) -> Core
+fn apply_sheet(sheet: &[u32], memory: &mut [u16]) -> (Core, u16)
     requires { Ok tt ≡ sheet_test sheet.now (length memory.old) }
-    ensures { Reading.gives result memory.new ≡ sheet_reads sheet.now (length memory.old) }
+    ensures { Reading.gives result.0 result.1 memory.new ≡ sheet_reads sheet.now (length memory.old) }
 {
     memory.fill(0);
     let mut core = Core::new();
+    let mut edition = 1;
     let mut address: usize = 0;
     for w in sheet {
         let Ok(record) = record_of(*w) else {
@@ -110,23 +115,30 @@ fn apply_sheet(sheet: &[u32], memory: &mut [u16]) -> Core
             Record::Preset(register, value) => {
                 core = with_register(core, register, value);
             }
+            Record::Edition(number) => {
+                edition = number;
+            }
             Record::End(_) => {
                 break;
             }
         }
     }
-    core
+    (core, edition)
 }
 
 // Loads a rule sheet. A refused one changes nothing: only the second pass writes.
 #[tactic(auto, unfolding(crate::specs::Load::load_sheet_of))]
 pub fn load_sheet(sheet: &[u32], memory: &mut [u16]) -> Load
-    ensures { left result.answer result.core memory.new ≡ load_sheet_of sheet.now memory.old }
+    ensures { left result.answer result.core result.edition memory.new ≡ load_sheet_of sheet.now memory.old }
 {
     let answer = test_sheet(sheet, memory.len());
-    let core = match answer {
+    let (core, edition) = match answer {
         Ok(()) => apply_sheet(sheet, memory),
-        Err(_) => Core::new(),
+        Err(_) => (Core::new(), 1),
     };
-    Load { core, answer }
+    Load {
+        core,
+        edition,
+        answer,
+    }
 }

@@ -20,6 +20,8 @@ pub enum SheetRefusal {
     NonzeroBit,
     // 22: the register's number is above 11.
     UnknownRegister,
+    // 34: an edition, of a record or of the host, is neither 1 nor 2.
+    UnknownEdition,
     // 23: a word record at an address at or past memory's length.
     PastMemory,
     // 24.
@@ -43,6 +45,7 @@ impl SheetRefusal {
             SheetRefusal::UnknownKind => 20,
             SheetRefusal::NonzeroBit => 21,
             SheetRefusal::UnknownRegister => 22,
+            SheetRefusal::UnknownEdition => 34,
             SheetRefusal::PastMemory => 23,
             SheetRefusal::NoEnd => 24,
             SheetRefusal::AfterEnd => 25,

@@ -2,11 +2,12 @@
 ghost use Rattle.std.specs.Prelude.{◌≡◌, ◌+◌, ◌*◌, ◌≤◌, ◌<◌, length};
 ghost use Rattle.std.proofs.lemmas.List.Edits.{sets};
 ghost use Rattle.instructions.specs.Bounded.{Bounded};
-ghost use Rattle.sheet.specs.Write.{wrote, preset_record, presets_from, records_at, stretches_from, words_in, write_sheet_of};
+ghost use Rattle.sheet.specs.Write.{wrote, edition_record, edition_records, preset_record, presets_from, records_at, stretches_from, words_in, write_sheet_of};
 
 use crate::fields::register;
 use crate::refusal::SheetRefusal;
 use emulator::Core;
+use execute::Edition;
 use memory::check_length;
 
 // How many records a word takes after the word before it.
@@ -46,6 +47,20 @@ fn count_words(memory: &[u16]) -> u32
         }
     }
     count
+}
+
+// How many records stand for the edition: one for edition 2, none for edition 1.
+#[tactic(auto, unfolding(crate::specs::Write::edition_records))]
+fn count_editions(edition: u16) -> usize
+    ensures { Bounded result (length (edition_records edition)) 2 }
+{
+    if edition == 2 { 1 } else { 0 }
+}
+
+fn edition_record(edition: u16) -> u32
+    ensures { result ≡ edition_record edition }
+{
+    0x70000000 + edition as u32
 }
 
 fn preset_record(register: u8, value: u16) -> u32
@@ -102,17 +117,29 @@ fn put_stretches(memory: &[u16], sheet: &mut [u32])
 
 // Writes the sheet that loads this core and memory. A refused write changes nothing.
 #[tactic(auto, using(crate::proofs::WriteLaws::sheet_laws), unfolding(crate::specs::Write::write_sheet_of, memory::specs::Memory::refused_length))]
-pub fn write_sheet(core: Core, memory: &[u16], sheet: &mut [u32]) -> Result<usize, SheetRefusal>
-    ensures { wrote result sheet.new ≡ write_sheet_of core memory.now sheet.old }
+pub fn write_sheet(
+    core: Core,
+    edition: u16,
+    memory: &[u16],
+    sheet: &mut [u32],
+) -> Result<usize, SheetRefusal>
+    ensures { wrote result sheet.new ≡ write_sheet_of core edition memory.now sheet.old }
 {
     check_length(memory.len())?;
+    if Edition::at(edition).is_none() {
+        return Err(SheetRefusal::UnknownEdition);
+    }
     let words = count_words(memory);
+    let first = count_editions(edition);
     let end = 12 + count_records(memory);
-    if sheet.len() <= end {
+    if sheet.len() <= first + end {
         return Err(SheetRefusal::ShortBuffer);
     }
-    put_presets(core, sheet);
-    put_stretches(memory, sheet);
-    sheet[end] = 0xF0000000 + words;
-    Ok(end + 1)
+    // In front stands the edition's record, where it has one.
+    let (front, rest) = sheet.split_at_mut(first);
+    front.fill(edition_record(edition));
+    put_presets(core, rest);
+    put_stretches(memory, rest);
+    rest[end] = 0xF0000000 + words;
+    Ok(first + end + 1)
 }

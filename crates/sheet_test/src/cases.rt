@@ -1,7 +1,7 @@
 // What is loaded and written.
 
 // Sheets.
-pub const SHEETS: [&[u32]; 66] = [
+pub const SHEETS: [&[u32]; 98] = [
     // Accepted: the end alone
     &[0xF0000000],
     // the program's example
@@ -133,6 +133,66 @@ pub const SHEETS: [&[u32]; 66] = [
     &[0xF0000001, 0xF0000000],
     // 22 and 24
     &[0x300C0000],
+    // Editions: the first and the second
+    &[0x70000001, 0xF0000000],
+    &[0x70000002, 0xF0000000],
+    // a later one over an earlier one
+    &[0x70000001, 0x70000002, 0xF0000000],
+    &[0x70000002, 0x70000001, 0xF0000000],
+    // after words and presets
+    &[0x20000001, 0x30000003, 0x70000002, 0xF0000001],
+    // between two words, whose addresses stay the next ones
+    &[0x20000001, 0x70000002, 0x20000002, 0xF0000002],
+    // 26: the count has the edition
+    &[0x70000002, 0x20000001, 0xF0000002],
+    // 20: the kinds beside it
+    &[0x60000002, 0xF0000000],
+    &[0x80000002, 0xF0000000],
+    // 21: bit 16 of an edition
+    &[0x70010002, 0xF0000000],
+    // bit 17 of an edition
+    &[0x70020002, 0xF0000000],
+    // bit 18 of an edition
+    &[0x70040002, 0xF0000000],
+    // bit 19 of an edition
+    &[0x70080002, 0xF0000000],
+    // bit 20 of an edition
+    &[0x70100002, 0xF0000000],
+    // bit 21 of an edition
+    &[0x70200002, 0xF0000000],
+    // bit 22 of an edition
+    &[0x70400002, 0xF0000000],
+    // bit 23 of an edition
+    &[0x70800002, 0xF0000000],
+    // bit 24 of an edition
+    &[0x71000002, 0xF0000000],
+    // bit 25 of an edition
+    &[0x72000002, 0xF0000000],
+    // bit 26 of an edition
+    &[0x74000002, 0xF0000000],
+    // bit 27 of an edition
+    &[0x78000002, 0xF0000000],
+    // 34: edition 0
+    &[0x70000000, 0xF0000000],
+    // edition 3
+    &[0x70000003, 0xF0000000],
+    // edition 65,535
+    &[0x7000FFFF, 0xF0000000],
+    // edition 258, whose low byte is 2
+    &[0x70000102, 0xF0000000],
+    // More than one test fails: 21 and 34
+    &[0x70010003],
+    // 22 and a later 34
+    &[0x300C0000, 0x70000003],
+    // 34 and a later 22
+    &[0x70000003, 0x300C0000],
+    // 34 and a later 23
+    &[0x70000000, 0x10000004, 0x20000001],
+    // 34 and 24
+    &[0x70000003],
+    // a refused sheet of edition 2
+    &[0x70000002, 0x20000001],
+    &[0x70000002, 0x70000003, 0xF0000000],
 ];
 
 // Memories of four words.

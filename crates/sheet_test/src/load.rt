@@ -22,7 +22,8 @@ fn load(rt: &impl Print, records: &[u32]) -> io::Result<()> {
 
 pub fn show_load(rt: &impl Print, l: Load) -> io::Result<()> {
     show::loaded(rt, l.answer)?;
-    show::core(rt, l.core)
+    show::core(rt, l.core)?;
+    show::edition(rt, l.edition)
 }
 
 // Host test 1, before any other.

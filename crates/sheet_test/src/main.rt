@@ -13,8 +13,10 @@ fn main(rt: HostRuntime) -> io::Result<()> {
     load::sheets(&rt, &cases::SHEETS)?;
     load::lengths(&rt)?;
     load::word_lists(&rt)?;
-    write::small(&rt, &cases::MEMORIES)?;
+    write::small(&rt, 1, &cases::MEMORIES)?;
+    write::small(&rt, 2, &cases::MEMORIES)?;
     write::room(&rt)?;
+    write::editions(&rt)?;
     write::large(&rt)?;
     input::small(&rt)?;
     input::large(&rt)

@@ -49,6 +49,11 @@ pub fn core(rt: &impl Print, c: Core) -> io::Result<()> {
     words(rt, &c.gprs)
 }
 
+pub fn edition(rt: &impl Print, n: u16) -> io::Result<()> {
+    text(rt, b"edition ")?;
+    word(rt, n)
+}
+
 pub fn words(rt: &impl Print, list: &[u16]) -> io::Result<()> {
     for w in list {
         word(rt, *w)?;

@@ -82,9 +82,9 @@ impl Sheet {
 
 /// The line that berth owes for a sheet that halts or reaches the limit, by the library; and the steps.
 fn line_of(sheet: &[u32]) -> (String, u32) {
-    let (mut core, mut memory, mut marks) = (Core::new(), vec![0; 32768], vec![0; 32768]);
-    core.load_sheet(sheet, &mut memory).unwrap();
-    let run = core.run(&mut memory, &mut marks, BERTH_LIMIT);
+    let (mut core, mut edition, mut memory, mut marks) = (Core::new(), 0, vec![0; 32768], vec![0; 32768]);
+    core.load_sheet(&mut edition, sheet, &mut memory).unwrap();
+    let run = core.run(&mut memory, &mut marks, edition, BERTH_LIMIT);
     let end = if run.end == Outcome::Halted { "halted" } else { "limit" };
     let registers = [core.ip, core.rp, core.sp, core.ef].into_iter().chain(core.r);
     let registers: Vec<String> = registers.map(|register| register.to_string()).collect();

@@ -18,10 +18,11 @@ const ROUNDS: usize = 15;
 const LIST_ROUNDS: usize = 2000;
 
 /// What is measured beside berth: its name, the cargo profile it is built in, and the machine.
-const MACHINES: [(&str, &str, &str); 8] = [
+const MACHINES: [(&str, &str, &str); 9] = [
     ("published Rust, overflow checks off", "unchecked", "published"),
     ("published Rust, overflow checks on", "release", "published"),
     ("library", "release", "library"),
+    ("library, edition 2", "release", "library-second"),
     ("library, guarded", "release", "guarded"),
     ("library, logged", "release", "logged"),
     ("library, logged, guarded", "release", "logged-guarded"),
@@ -137,15 +138,15 @@ fn print_row(name: &str, columns: impl IntoIterator<Item = impl Display>) {
 /// A full sheet: 65,536 words, none of them 0.
 fn sheets() {
     let memory: Vec<u16> = (0..=0xFFFF).map(|at: u16| at | 1).collect();
-    let (mut core, mut loaded, mut sheet) = (Core::new(), vec![0; 65536], vec![0; 65550]);
+    let (mut core, mut edition, mut loaded, mut sheet) = (Core::new(), 0, vec![0; 65536], vec![0; 65550]);
     let (mut writing, mut loading) = (Vec::new(), Vec::new());
     for _ in 0..ROUNDS {
         let start = cpu_time();
-        let count = core.write_sheet(&memory, &mut sheet);
+        let count = core.write_sheet(1, &memory, &mut sheet);
         let written = cpu_time();
-        let answer = core.load_sheet(&sheet, &mut loaded);
+        let answer = core.load_sheet(&mut edition, &sheet, &mut loaded);
         let end = cpu_time();
-        assert!(count == Ok(65550) && answer == Ok(()) && loaded == memory);
+        assert!(count == Ok(65550) && answer == Ok(()) && edition == 1 && loaded == memory);
         writing.push(written - start);
         loading.push(end - written);
     }

@@ -1,16 +1,18 @@
 //! Calls, each with its answer and with what it leaves of what was lent.
 
 use crate::machine::{Machine, Model};
+use crate::model::Terms;
 use crate::report::Report;
-use nilguseg::{Core, LoggedRun, Outcome, Run};
+use nilguseg::{Core, LoggedRun, Outcome, Refusal, Run};
 
-/// What may be lent to a call. The records are a sheet's or a log's.
+/// What may be lent to a call, and the edition that it is handed or, by a load, hands back. The records are a sheet's or a log's.
 #[derive(Debug, Clone, PartialEq)]
 pub struct Lent {
     pub core: Core,
     pub memory: Vec<u16>,
     pub marks: Vec<u8>,
     pub rights: Option<Vec<u8>>,
+    pub edition: u16,
     pub records: Vec<u32>,
 }
 
@@ -21,24 +23,45 @@ pub struct Called<A> {
     pub left: Lent,
 }
 
+/// Lent without rights, in edition 1.
 pub fn lent(core: Core, memory: Vec<u16>, marks: usize, records: Vec<u32>) -> Lent {
-    Lent { core, memory, marks: vec![0xA4; marks], rights: None, records }
+    Lent { core, memory, marks: vec![0xA4; marks], rights: None, edition: 1, records }
+}
+
+pub fn step(machine: &dyn Machine, lent: &mut Lent) -> Outcome {
+    machine.step(&mut lent.core, &mut lent.memory, &mut lent.marks, lent.edition)
 }
 
 pub fn run(limit: u32) -> impl Fn(&dyn Machine, &mut Lent) -> Run {
-    move |machine, Lent { core, memory, marks, rights, .. }| machine.run(core, memory, marks, rights.as_deref(), limit)
+    move |machine, Lent { core, memory, marks, rights, edition, .. }| {
+        machine.run(core, memory, marks, terms(rights, *edition), limit)
+    }
 }
 
 /// A run with the records as the room for its log.
 pub fn run_logged(limit: u32) -> impl Fn(&dyn Machine, &mut Lent) -> LoggedRun {
-    move |machine, Lent { core, memory, marks, rights, records }| {
-        machine.run_logged(core, memory, marks, rights.as_deref(), limit, records)
+    move |machine, Lent { core, memory, marks, rights, edition, records }| {
+        machine.run_logged(core, memory, marks, terms(rights, *edition), limit, records)
     }
 }
 
 /// A replay of the records.
 pub fn replay(size: usize, limit: u32) -> impl Fn(&dyn Machine, &mut Lent) -> Run {
-    move |machine, lent| machine.replay(&mut lent.core, size, lent.rights.as_deref(), limit, &lent.records)
+    move |machine, Lent { core, rights, edition, records, .. }| {
+        machine.replay(core, size, terms(rights, *edition), limit, records)
+    }
+}
+
+fn terms(rights: &Option<Vec<u8>>, edition: u16) -> Terms<'_> {
+    Terms { rights: rights.as_deref(), edition }
+}
+
+pub fn load_sheet(machine: &dyn Machine, lent: &mut Lent) -> Result<(), Refusal> {
+    machine.load_sheet(&mut lent.core, &mut lent.edition, &lent.records, &mut lent.memory)
+}
+
+pub fn write_sheet(machine: &dyn Machine, lent: &mut Lent) -> Result<usize, Refusal> {
+    machine.write_sheet(&lent.core, lent.edition, &lent.memory, &mut lent.records)
 }
 
 /// Calls the machine and compares with what is expected.
@@ -75,9 +98,9 @@ pub fn expect_runs(
     expect(machine, what[2], &log, replay(given.memory.len(), limit), &replayed, report);
 }
 
-/// What a replay of a log is lent: the core and the rights of its run, and no memory.
+/// What a replay of a log is lent: the core, the rights and the edition of its run, and no memory.
 pub fn log_of(given: &Lent, log: Vec<u32>) -> Lent {
-    Lent { rights: given.rights.clone(), ..lent(given.core, vec![], 0, log) }
+    Lent { rights: given.rights.clone(), edition: given.edition, ..lent(given.core, vec![], 0, log) }
 }
 
 fn details<A: std::fmt::Debug>(lent: &Lent, given: &Called<A>, expected: &Called<A>) -> String {
@@ -87,8 +110,8 @@ fn details<A: std::fmt::Debug>(lent: &Lent, given: &Called<A>, expected: &Called
     }
     let other = (0..records).find(|&at| given.left.records[at] != expected.left.records[at]);
     format!(
-        "memory of {words} words, {records} records of which the first to differ is {other:?}, {}from {:?}\n  answered {:?} {:?}\n  expected {:?} {:?}",
-        told(&lent.rights), lent.core, given.answer, given.left.core, expected.answer, expected.left.core
+        "edition {}, memory of {words} words, {records} records of which the first to differ is {other:?}, {}from {:?}\n  answered {:?} {:?}\n  expected {:?} {:?}",
+        lent.edition, told(&lent.rights), lent.core, given.answer, given.left.core, expected.answer, expected.left.core
     )
 }
 

@@ -2,6 +2,7 @@
 
 mod assembly;
 mod calls;
+mod editions;
 mod lists;
 mod logs;
 pub mod machine;
@@ -45,6 +46,10 @@ pub struct Effort {
     pub rights: usize,
     /// Of the accesses at borders of pages, one in so many is taken.
     pub borders: usize,
+    /// Programs run in edition 2.
+    pub editions: usize,
+    /// Of the amounts from 64 on, each of these many is taken in both editions.
+    pub amounts: usize,
 }
 
 pub const FULL: Effort = Effort {
@@ -58,6 +63,8 @@ pub const FULL: Effort = Effort {
     logs: 20_000,
     rights: 60_000,
     borders: 1,
+    editions: 40_000,
+    amounts: 1,
 };
 
 pub const SHORT: Effort = Effort {
@@ -71,6 +78,8 @@ pub const SHORT: Effort = Effort {
     logs: 1_000,
     rights: 2_000,
     borders: 8,
+    editions: 2_000,
+    amounts: 1,
 };
 
 /// Enough to find a wrong machine.
@@ -85,23 +94,29 @@ pub const CONTROL: Effort = Effort {
     logs: 300,
     rights: 60,
     borders: 32,
+    editions: 100,
+    amounts: 64,
 };
 
 type Part = fn(&dyn Machine, &Effort, &mut Report);
 
-/// The two that take longest stand last: most wrong machines are found before them, and a third of them by the rights.
-const PARTS: [Part; 13] = [
+/// By the time that they take, so that most wrong machines are found soon.
+const PARTS: [Part; 14] = [
     |machine, _, report| words::decode(machine, report),
-    |machine, _, report| steps::every_edge(machine, report),
+    |machine, effort, report| lists::lists(machine, effort.lists, report),
+    |machine, effort, report| sheets::sheets(machine, effort.sheets, report),
     |machine, effort, report| steps::every_value(machine, effort.stride, report),
     |machine, effort, report| runs::measured(machine, effort.measured, report),
-    |machine, effort, report| rights::rights(machine, effort.rights, effort.measured, effort.borders, report),
+    |machine, _, report| sheets::refusals(machine, report),
+    |machine, effort, report| logs::logs(machine, effort.logs, effort.measured, report),
+    |machine, effort, report| {
+        let Effort { editions, measured, states, amounts, .. } = *effort;
+        editions::editions(machine, editions, measured, states, amounts, report)
+    },
+    |machine, _, report| steps::every_edge(machine, report),
     |machine, effort, report| runs::limits(machine, effort.runs, report),
     |machine, effort, report| runs::lockstep(machine, effort.lockstep, report),
-    |machine, _, report| sheets::refusals(machine, report),
-    |machine, effort, report| sheets::sheets(machine, effort.sheets, report),
-    |machine, effort, report| lists::lists(machine, effort.lists, report),
-    |machine, effort, report| logs::logs(machine, effort.logs, effort.measured, report),
+    |machine, effort, report| rights::rights(machine, effort.rights, effort.measured, effort.borders, report),
     |machine, effort, report| steps::every_word(machine, effort.states, report),
     |machine, _, report| words::encode(machine, report),
 ];

@@ -63,7 +63,7 @@ fn log_word(random: &mut Random) -> u32 {
 
 /// A logged run by the published Rust: how it ends, what it leaves, its log in the records, and the least room that it needs.
 pub struct Published {
-    run: Run,
+    pub run: Run,
     pub left: Lent,
     pub needed: usize,
 }
@@ -81,7 +81,7 @@ impl Published {
         let Run { end, steps } = self.run;
         let log = &self.left.records;
         let records = [log, &given.records[log.len()..]].concat();
-        let left = Lent { rights: given.rights.clone(), records, ..self.left.clone() };
+        let left = Lent { rights: given.rights.clone(), edition: given.edition, records, ..self.left.clone() };
         Called { answer: LoggedRun { end, steps, logged: log.len() }, left }
     }
 }

@@ -2,7 +2,7 @@
 
 use std::cmp::Ordering;
 
-use crate::model::{self, Rights};
+use crate::model::{self, Terms};
 use nilguseg::{Core, Fault, Instruction, LoggedRun, Outcome, Refusal, Run};
 
 pub trait Machine {
@@ -14,12 +14,12 @@ pub trait Machine {
         model::encode(instruction)
     }
 
-    fn step(&self, core: &mut Core, memory: &mut [u16], marks: &mut [u8]) -> Outcome {
-        model::step(core, memory, marks)
+    fn step(&self, core: &mut Core, memory: &mut [u16], marks: &mut [u8], edition: u16) -> Outcome {
+        model::step(core, memory, marks, edition)
     }
 
-    fn run(&self, core: &mut Core, memory: &mut [u16], marks: &mut [u8], rights: Rights, limit: u32) -> Run {
-        model::run(core, memory, marks, rights, limit)
+    fn run(&self, core: &mut Core, memory: &mut [u16], marks: &mut [u8], terms: Terms, limit: u32) -> Run {
+        model::run(core, memory, marks, terms, limit)
     }
 
     fn run_logged(
@@ -27,27 +27,27 @@ pub trait Machine {
         core: &mut Core,
         memory: &mut [u16],
         marks: &mut [u8],
-        rights: Rights,
+        terms: Terms,
         limit: u32,
         log: &mut [u32],
     ) -> LoggedRun {
-        model::run_logged(core, memory, marks, rights, limit, log)
+        model::run_logged(core, memory, marks, terms, limit, log)
     }
 
-    fn replay(&self, core: &mut Core, size: usize, rights: Rights, limit: u32, log: &[u32]) -> Run {
-        model::replay(core, size, rights, limit, log)
+    fn replay(&self, core: &mut Core, size: usize, terms: Terms, limit: u32, log: &[u32]) -> Run {
+        model::replay(core, size, terms, limit, log)
     }
 
-    fn load_words(&self, core: &mut Core, words: &[u16], memory: &mut [u16]) -> Result<(), Refusal> {
-        model::load_words(core, words, memory)
+    fn load_words(&self, core: &mut Core, edition: &mut u16, words: &[u16], memory: &mut [u16]) -> Result<(), Refusal> {
+        model::load_words(core, edition, words, memory)
     }
 
-    fn load_sheet(&self, core: &mut Core, sheet: &[u32], memory: &mut [u16]) -> Result<(), Refusal> {
-        model::load_sheet(core, sheet, memory)
+    fn load_sheet(&self, core: &mut Core, edition: &mut u16, sheet: &[u32], memory: &mut [u16]) -> Result<(), Refusal> {
+        model::load_sheet(core, edition, sheet, memory)
     }
 
-    fn write_sheet(&self, core: &Core, memory: &[u16], sheet: &mut [u32]) -> Result<usize, Refusal> {
-        model::write_sheet(core, memory, sheet)
+    fn write_sheet(&self, core: &Core, edition: u16, memory: &[u16], sheet: &mut [u32]) -> Result<usize, Refusal> {
+        model::write_sheet(core, edition, memory, sheet)
     }
 
     fn compare(&self, first: &[u16], second: &[u16]) -> Ordering {
@@ -76,14 +76,14 @@ impl Machine for Library {
         nilguseg::encode(instruction)
     }
 
-    fn step(&self, core: &mut Core, memory: &mut [u16], marks: &mut [u8]) -> Outcome {
-        core.step(memory, marks)
+    fn step(&self, core: &mut Core, memory: &mut [u16], marks: &mut [u8], edition: u16) -> Outcome {
+        core.step(memory, marks, edition)
     }
 
-    fn run(&self, core: &mut Core, memory: &mut [u16], marks: &mut [u8], rights: Rights, limit: u32) -> Run {
-        match rights {
-            None => core.run(memory, marks, limit),
-            Some(rights) => core.run_guarded(memory, marks, rights, limit),
+    fn run(&self, core: &mut Core, memory: &mut [u16], marks: &mut [u8], terms: Terms, limit: u32) -> Run {
+        match terms.rights {
+            None => core.run(memory, marks, terms.edition, limit),
+            Some(rights) => core.run_guarded(memory, marks, rights, terms.edition, limit),
         }
     }
 
@@ -92,33 +92,33 @@ impl Machine for Library {
         core: &mut Core,
         memory: &mut [u16],
         marks: &mut [u8],
-        rights: Rights,
+        terms: Terms,
         limit: u32,
         log: &mut [u32],
     ) -> LoggedRun {
-        match rights {
-            None => core.run_logged(memory, marks, limit, log),
-            Some(rights) => core.run_logged_guarded(memory, marks, rights, limit, log),
+        match terms.rights {
+            None => core.run_logged(memory, marks, terms.edition, limit, log),
+            Some(rights) => core.run_logged_guarded(memory, marks, rights, terms.edition, limit, log),
         }
     }
 
-    fn replay(&self, core: &mut Core, size: usize, rights: Rights, limit: u32, log: &[u32]) -> Run {
-        match rights {
-            None => core.replay(size, limit, log),
-            Some(rights) => core.replay_guarded(size, rights, limit, log),
+    fn replay(&self, core: &mut Core, size: usize, terms: Terms, limit: u32, log: &[u32]) -> Run {
+        match terms.rights {
+            None => core.replay(size, terms.edition, limit, log),
+            Some(rights) => core.replay_guarded(size, rights, terms.edition, limit, log),
         }
     }
 
-    fn load_words(&self, core: &mut Core, words: &[u16], memory: &mut [u16]) -> Result<(), Refusal> {
-        core.load_words(words, memory)
+    fn load_words(&self, core: &mut Core, edition: &mut u16, words: &[u16], memory: &mut [u16]) -> Result<(), Refusal> {
+        core.load_words(edition, words, memory)
     }
 
-    fn load_sheet(&self, core: &mut Core, sheet: &[u32], memory: &mut [u16]) -> Result<(), Refusal> {
-        core.load_sheet(sheet, memory)
+    fn load_sheet(&self, core: &mut Core, edition: &mut u16, sheet: &[u32], memory: &mut [u16]) -> Result<(), Refusal> {
+        core.load_sheet(edition, sheet, memory)
     }
 
-    fn write_sheet(&self, core: &Core, memory: &[u16], sheet: &mut [u32]) -> Result<usize, Refusal> {
-        core.write_sheet(memory, sheet)
+    fn write_sheet(&self, core: &Core, edition: u16, memory: &[u16], sheet: &mut [u32]) -> Result<usize, Refusal> {
+        core.write_sheet(edition, memory, sheet)
     }
 
     fn compare(&self, first: &[u16], second: &[u16]) -> Ordering {

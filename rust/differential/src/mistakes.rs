@@ -1,12 +1,13 @@
 //! Wrong machines, each the model with one mistake. The comparison must report every one of them; the first
 //! five are the "Mistakes met in such machines" of document 01.
 
+mod editions;
 mod rights;
 
 use std::cmp::Ordering;
 
 use crate::machine::Machine;
-use crate::model::{self, Guard, Rights, DATA, FETCH};
+use crate::model::{self, Guard, Terms, DATA, FETCH};
 use nilguseg::{kind::*, Core, Fault, Instruction, LoggedRun, Outcome, Refusal, Run};
 
 pub struct WrongMachine {
@@ -19,7 +20,7 @@ enum Mistake {
     Decode(fn(u16) -> Result<Instruction, Fault>),
     Encode(fn(Instruction) -> Option<u16>),
     Step(fn(&mut Stepped)),
-    Run(fn(&mut Core, &mut [u16], &mut [u8], Rights, u32) -> Run),
+    Run(fn(&mut Core, &mut [u16], &mut [u8], Terms, u32) -> Run),
     RunLogged(RunLogged),
     Logged(fn(&mut LoggedRun, &mut [u32])),
     Replay(Replay),
@@ -27,6 +28,8 @@ enum Mistake {
     Access(model::Access),
     /// What the machine takes the rights for that it is given.
     Rights(fn(&[u8]) -> Vec<u8>),
+    /// The same of the edition that it is handed.
+    Edition(fn(u16) -> u16),
     LoadWords(Load<u16>),
     LoadSheet(Load<u32>),
     WriteSheet(Write),
@@ -34,13 +37,14 @@ enum Mistake {
     Earlier(for<'a> fn(&'a [u16], &'a [u16]) -> &'a [u16]),
 }
 
-type RunLogged = fn(&mut Core, &mut [u16], &mut [u8], Rights, u32, &mut [u32]) -> LoggedRun;
-type Replay = fn(&mut Core, usize, Rights, u32, &[u32]) -> Run;
-type Load<T> = fn(&mut Core, &[T], &mut [u16]) -> Result<(), Refusal>;
-type Write = fn(&Core, &[u16], &mut [u32]) -> Result<usize, Refusal>;
+type RunLogged = fn(&mut Core, &mut [u16], &mut [u8], Terms, u32, &mut [u32]) -> LoggedRun;
+type Replay = fn(&mut Core, usize, Terms, u32, &[u32]) -> Run;
+type Load<T> = fn(&mut Core, &mut u16, &[T], &mut [u16]) -> Result<(), Refusal>;
+type Write = fn(&Core, u16, &[u16], &mut [u32]) -> Result<usize, Refusal>;
 
 /// A step of the model, to be spoilt.
 struct Stepped<'a> {
+    edition: u16,
     before: Core,
     /// The kind of the word fetched and its operands; no kind where none was fetched or it is undecodable.
     kind: Option<u8>,
@@ -103,18 +107,28 @@ fn wrong_step(
     let mut log = Vec::new();
     let answer = model::step_of_run(core, memory, marks, guard, Some(&mut log));
     let kind = fetched.map(|instruction| instruction.kind);
-    let mut stepped = Stepped { before, kind, first, second, address, mark, core, memory, marks, log, answer };
+    let edition = guard.terms.edition;
+    let mut stepped = Stepped { edition, before, kind, first, second, address, mark, core, memory, marks, log, answer };
     step(&mut stepped);
     words.extend(stepped.log);
     stepped.answer
 }
 
 impl WrongMachine {
-    /// The rights of a run, and what its accesses are tested by.
-    fn guard<'a>(&self, rights: Rights<'a>) -> Guard<'a> {
+    /// What a run is handed, and what its accesses are tested by.
+    fn guard<'a>(&self, terms: Terms<'a>) -> Guard<'a> {
         match self.mistake {
-            Mistake::Access(access) => Guard { rights, access },
-            _ => Guard::of(rights),
+            Mistake::Access(access) => Guard { terms, access },
+            _ => Guard::of(terms),
+        }
+    }
+
+    /// A call with what the machine takes the terms for.
+    fn taken<A>(&self, terms: Terms, call: impl FnOnce(Terms) -> A) -> A {
+        match self.mistake {
+            Mistake::Rights(taken) => call(Terms { rights: terms.rights.map(taken).as_deref(), ..terms }),
+            Mistake::Edition(taken) => call(Terms { edition: taken(terms.edition), ..terms }),
+            _ => call(terms),
         }
     }
 
@@ -124,10 +138,10 @@ impl WrongMachine {
         core: &mut Core,
         memory: &mut [u16],
         marks: &mut [u8],
-        rights: Rights,
+        terms: Terms,
         words: &mut Vec<u32>,
     ) -> Outcome {
-        let guard = self.guard(rights);
+        let guard = self.guard(terms);
         match self.mistake {
             Mistake::Step(step) => wrong_step(step, core, memory, marks, guard, words),
             _ => model::step_of_run(core, memory, marks, guard, Some(words)),
@@ -150,24 +164,24 @@ impl Machine for WrongMachine {
         }
     }
 
-    fn step(&self, core: &mut Core, memory: &mut [u16], marks: &mut [u8]) -> Outcome {
+    fn step(&self, core: &mut Core, memory: &mut [u16], marks: &mut [u8], edition: u16) -> Outcome {
+        let terms = Terms { rights: None, edition };
         match self.mistake {
-            Mistake::Step(step) => wrong_step(step, core, memory, marks, Guard::of(None), &mut Vec::new()),
-            _ => model::step(core, memory, marks),
+            Mistake::Step(step) => wrong_step(step, core, memory, marks, Guard::of(terms), &mut Vec::new()),
+            _ => self.taken(terms, |terms| model::step(core, memory, marks, terms.edition)),
         }
     }
 
-    fn run(&self, core: &mut Core, memory: &mut [u16], marks: &mut [u8], rights: Rights, limit: u32) -> Run {
+    fn run(&self, core: &mut Core, memory: &mut [u16], marks: &mut [u8], terms: Terms, limit: u32) -> Run {
         match self.mistake {
-            Mistake::Run(run) => run(core, memory, marks, rights, limit),
+            Mistake::Run(run) => run(core, memory, marks, terms, limit),
             Mistake::Step(_) | Mistake::Access(_) => {
                 let wrong_steps = |core: &mut Core, memory: &mut [u16], marks: &mut [u8]| {
-                    self.step_of_run(core, memory, marks, rights, &mut Vec::new())
+                    self.step_of_run(core, memory, marks, terms, &mut Vec::new())
                 };
-                model::run_by(wrong_steps, core, memory, marks, rights, limit)
+                model::run_by(wrong_steps, core, memory, marks, terms, limit)
             }
-            Mistake::Rights(taken) => model::run(core, memory, marks, rights.map(taken).as_deref(), limit),
-            _ => model::run(core, memory, marks, rights, limit),
+            _ => self.taken(terms, |terms| model::run(core, memory, marks, terms, limit)),
         }
     }
 
@@ -176,55 +190,55 @@ impl Machine for WrongMachine {
         core: &mut Core,
         memory: &mut [u16],
         marks: &mut [u8],
-        rights: Rights,
+        terms: Terms,
         limit: u32,
         log: &mut [u32],
     ) -> LoggedRun {
         match self.mistake {
-            Mistake::RunLogged(run) => run(core, memory, marks, rights, limit, log),
+            Mistake::RunLogged(run) => run(core, memory, marks, terms, limit, log),
             Mistake::Logged(spoil) => {
-                let mut run = model::run_logged(core, memory, marks, rights, limit, log);
+                let mut run = model::run_logged(core, memory, marks, terms, limit, log);
                 spoil(&mut run, log);
                 run
             }
             Mistake::Step(_) | Mistake::Access(_) => {
                 let wrong_steps = |core: &mut Core, memory: &mut [u16], marks: &mut [u8], words: &mut Vec<u32>| {
-                    self.step_of_run(core, memory, marks, rights, words)
+                    self.step_of_run(core, memory, marks, terms, words)
                 };
-                model::run_logged_by(wrong_steps, core, memory, marks, rights, limit, log)
+                model::run_logged_by(wrong_steps, core, memory, marks, terms, limit, log)
             }
-            Mistake::Rights(taken) => model::run_logged(core, memory, marks, rights.map(taken).as_deref(), limit, log),
-            _ => model::run_logged(core, memory, marks, rights, limit, log),
+            _ => self.taken(terms, |terms| model::run_logged(core, memory, marks, terms, limit, log)),
         }
     }
 
-    fn replay(&self, core: &mut Core, size: usize, rights: Rights, limit: u32, log: &[u32]) -> Run {
+    fn replay(&self, core: &mut Core, size: usize, terms: Terms, limit: u32, log: &[u32]) -> Run {
         match self.mistake {
-            Mistake::Replay(replay) => replay(core, size, rights, limit, log),
-            Mistake::Found(found) => model::replay_by(found, Guard::of(rights), core, size, limit, log),
-            Mistake::Rights(taken) => model::replay(core, size, rights.map(taken).as_deref(), limit, log),
-            _ => model::replay_by(model::found, self.guard(rights), core, size, limit, log),
+            Mistake::Replay(replay) => replay(core, size, terms, limit, log),
+            Mistake::Found(found) => model::replay_by(found, Guard::of(terms), core, size, limit, log),
+            Mistake::Access(_) => model::replay_by(model::found, self.guard(terms), core, size, limit, log),
+            _ => self.taken(terms, |terms| model::replay(core, size, terms, limit, log)),
         }
     }
 
-    fn load_words(&self, core: &mut Core, words: &[u16], memory: &mut [u16]) -> Result<(), Refusal> {
+    fn load_words(&self, core: &mut Core, edition: &mut u16, words: &[u16], memory: &mut [u16]) -> Result<(), Refusal> {
         match self.mistake {
-            Mistake::LoadWords(load) => load(core, words, memory),
-            _ => model::load_words(core, words, memory),
+            Mistake::LoadWords(load) => load(core, edition, words, memory),
+            _ => model::load_words(core, edition, words, memory),
         }
     }
 
-    fn load_sheet(&self, core: &mut Core, sheet: &[u32], memory: &mut [u16]) -> Result<(), Refusal> {
+    fn load_sheet(&self, core: &mut Core, edition: &mut u16, sheet: &[u32], memory: &mut [u16]) -> Result<(), Refusal> {
         match self.mistake {
-            Mistake::LoadSheet(load) => load(core, sheet, memory),
-            _ => model::load_sheet(core, sheet, memory),
+            Mistake::LoadSheet(load) => load(core, edition, sheet, memory),
+            _ => model::load_sheet(core, edition, sheet, memory),
         }
     }
 
-    fn write_sheet(&self, core: &Core, memory: &[u16], sheet: &mut [u32]) -> Result<usize, Refusal> {
+    fn write_sheet(&self, core: &Core, edition: u16, memory: &[u16], sheet: &mut [u32]) -> Result<usize, Refusal> {
         match self.mistake {
-            Mistake::WriteSheet(write) => write(core, memory, sheet),
-            _ => model::write_sheet(core, memory, sheet),
+            Mistake::WriteSheet(write) => write(core, edition, memory, sheet),
+            Mistake::Edition(taken) => model::write_sheet(core, taken(edition), memory, sheet),
+            _ => model::write_sheet(core, edition, memory, sheet),
         }
     }
 
@@ -261,7 +275,7 @@ const fn other(name: &'static str, mistake: Mistake) -> WrongMachine {
 
 /// All of them.
 pub fn wrong_machines() -> impl Iterator<Item = &'static WrongMachine> {
-    WRONG_MACHINES.iter().chain(&rights::RIGHTS)
+    WRONG_MACHINES.iter().chain(&rights::RIGHTS).chain(&editions::EDITIONS)
 }
 
 const WRONG_MACHINES: [WrongMachine; 80] = [
@@ -287,8 +301,8 @@ const WRONG_MACHINES: [WrongMachine; 80] = [
     }),
     other(
         "limit is reported for a core that just halted",
-        Mistake::Run(|core, memory, marks, rights, limit| {
-            let run = model::run(core, memory, marks, rights, limit);
+        Mistake::Run(|core, memory, marks, terms, limit| {
+            let run = model::run(core, memory, marks, terms, limit);
             if run.end == Outcome::Halted && run.steps == limit {
                 Run { end: Outcome::Limit, ..run }
             } else {
@@ -380,13 +394,13 @@ const WRONG_MACHINES: [WrongMachine; 80] = [
             s.core.r[s.first] = (s.operands().0 & s.operands().1 > 0) as u16;
         }
     }),
-    step("a shift by 16 or more gives 0", |s| {
+    step("a shift by 16 or more gives 0 in edition 1", |s| {
         if s.fault(13) && s.kind != Some(BITSET) {
             s.core.r[s.first] = 0;
             s.answer = Outcome::Stepped;
         }
     }),
-    step("a bit's index goes by its low four bits", |s| {
+    step("a bit's index goes by its low four bits in edition 1", |s| {
         if s.fault(13) && s.kind == Some(BITSET) && s.before.ef & 2 > 0 {
             s.core.r[s.first] |= 1 << (s.operands().1 % 16);
             s.answer = Outcome::Stepped;
@@ -397,7 +411,7 @@ const WRONG_MACHINES: [WrongMachine; 80] = [
             s.core.r[s.first] |= 1 << s.operands().1;
         }
     }),
-    step("neg of 0x8000 is allowed", |s| {
+    step("neg of 0x8000 is allowed in edition 1", |s| {
         if s.fault(14) {
             s.answer = Outcome::Stepped;
         }
@@ -425,8 +439,8 @@ const WRONG_MACHINES: [WrongMachine; 80] = [
     }),
     other(
         "a step that faults is counted",
-        Mistake::Run(|core, memory, marks, rights, limit| {
-            let run = model::run(core, memory, marks, rights, limit);
+        Mistake::Run(|core, memory, marks, terms, limit| {
+            let run = model::run(core, memory, marks, terms, limit);
             if matches!(run.end, Outcome::Fault(_)) {
                 Run { steps: run.steps + 1, ..run }
             } else {
@@ -436,28 +450,28 @@ const WRONG_MACHINES: [WrongMachine; 80] = [
     ),
     other(
         "a run keeps the marks that it finds",
-        Mistake::Run(|core, memory, marks, rights, limit| {
+        Mistake::Run(|core, memory, marks, terms, limit| {
             let found = marks.to_vec();
-            let run = model::run(core, memory, marks, rights, limit);
+            let run = model::run(core, memory, marks, terms, limit);
             marks.iter_mut().zip(found).for_each(|(mark, found)| *mark |= found);
             run
         }),
     ),
     other(
         "a run goes one step past its limit",
-        Mistake::Run(|core, memory, marks, rights, limit| {
-            let run = model::run(core, memory, marks, rights, limit);
+        Mistake::Run(|core, memory, marks, terms, limit| {
+            let run = model::run(core, memory, marks, terms, limit);
             if run.end == Outcome::Limit {
-                model::step(core, memory, marks);
+                model::step(core, memory, marks, terms.edition);
             }
             run
         }),
     ),
     other(
         "a refused run clears the marks",
-        Mistake::Run(|core, memory, marks, rights, limit| {
+        Mistake::Run(|core, memory, marks, terms, limit| {
             marks.fill(0);
-            model::run(core, memory, marks, rights, limit)
+            model::run(core, memory, marks, terms, limit)
         }),
     ),
     step("the lengths are tested in another order", |s| {
@@ -497,17 +511,17 @@ const WRONG_MACHINES: [WrongMachine; 80] = [
     ),
     other(
         "a word list leaves the words behind it",
-        Mistake::LoadWords(|core, words, memory| {
+        Mistake::LoadWords(|core, edition, words, memory| {
             let found = memory.to_vec();
-            model::load_words(core, words, memory)?;
+            model::load_words(core, edition, words, memory)?;
             memory[words.len()..].copy_from_slice(&found[words.len()..]);
             Ok(())
         }),
     ),
     other(
         "records after the end are tested before its count",
-        Mistake::LoadSheet(|core, sheet, memory| {
-            let refusal = model::load_sheet(core, sheet, memory);
+        Mistake::LoadSheet(|core, edition, sheet, memory| {
+            let refusal = model::load_sheet(core, edition, sheet, memory);
             let end = sheet.iter().position(|record| record >> 28 == 15);
             match (refusal, end) {
                 (Err(Refusal(26)), Some(end)) if end + 1 < sheet.len() => Err(Refusal(25)),
@@ -517,8 +531,8 @@ const WRONG_MACHINES: [WrongMachine; 80] = [
     ),
     other(
         "the load address wraps",
-        Mistake::LoadSheet(|core, sheet, memory| {
-            let refusal = model::load_sheet(core, sheet, memory);
+        Mistake::LoadSheet(|core, edition, sheet, memory| {
+            let refusal = model::load_sheet(core, edition, sheet, memory);
             if refusal == Err(Refusal(23)) && memory.len() == 65536 {
                 Ok(())
             } else {
@@ -528,8 +542,8 @@ const WRONG_MACHINES: [WrongMachine; 80] = [
     ),
     other(
         "a buffer too short is written in part",
-        Mistake::WriteSheet(|core, memory, sheet| {
-            let refusal = model::write_sheet(core, memory, sheet);
+        Mistake::WriteSheet(|core, edition, memory, sheet| {
+            let refusal = model::write_sheet(core, edition, memory, sheet);
             if let (Err(Refusal(4)), Some(first)) = (refusal, sheet.first_mut()) {
                 *first = 0x3000_0000 | core.r[0] as u32;
             }
@@ -636,18 +650,18 @@ const WRONG_MACHINES: [WrongMachine; 80] = [
     }),
     other(
         "room for three words is enough",
-        Mistake::RunLogged(|core, memory, marks, rights, limit, log| {
+        Mistake::RunLogged(|core, memory, marks, terms, limit, log| {
             let mut longer = [&log[..], &[0]].concat();
-            let run = model::run_logged(core, memory, marks, rights, limit, &mut longer);
+            let run = model::run_logged(core, memory, marks, terms, limit, &mut longer);
             log.copy_from_slice(&longer[..log.len()]);
             LoggedRun { logged: run.logged.min(log.len()), ..run }
         }),
     ),
     other(
         "room for four words is not enough",
-        Mistake::RunLogged(|core, memory, marks, rights, limit, log| {
+        Mistake::RunLogged(|core, memory, marks, terms, limit, log| {
             let shorter = log.len().saturating_sub(1);
-            model::run_logged(core, memory, marks, rights, limit, &mut log[..shorter])
+            model::run_logged(core, memory, marks, terms, limit, &mut log[..shorter])
         }),
     ),
     found("a replay does not look at the address", |read, log| match *log {
@@ -677,16 +691,16 @@ const WRONG_MACHINES: [WrongMachine; 80] = [
     }),
     other(
         "a replay leaves words over",
-        Mistake::Replay(|core, size, rights, limit, log| {
-            let left = model::follow(model::found, Guard::of(rights), *core, size, limit, log).left;
-            model::replay(core, size, rights, limit, &log[..log.len() - left])
+        Mistake::Replay(|core, size, terms, limit, log| {
+            let left = model::follow(model::found, Guard::of(terms), *core, size, limit, log).left;
+            model::replay(core, size, terms, limit, &log[..log.len() - left])
         }),
     ),
     other(
         "a replay answered by 31 hands back another core",
-        Mistake::Replay(|core, size, rights, limit, log| {
-            let followed = model::follow(model::found, Guard::of(rights), *core, size, limit, log);
-            let run = model::replay(core, size, rights, limit, log);
+        Mistake::Replay(|core, size, terms, limit, log| {
+            let followed = model::follow(model::found, Guard::of(terms), *core, size, limit, log);
+            let run = model::replay(core, size, terms, limit, log);
             if run.end == Outcome::Log(31) {
                 *core = followed.core;
             }
@@ -695,9 +709,9 @@ const WRONG_MACHINES: [WrongMachine; 80] = [
     ),
     other(
         "a replay answered by 31 has steps",
-        Mistake::Replay(|core, size, rights, limit, log| {
-            let followed = model::follow(model::found, Guard::of(rights), *core, size, limit, log);
-            let run = model::replay(core, size, rights, limit, log);
+        Mistake::Replay(|core, size, terms, limit, log| {
+            let followed = model::follow(model::found, Guard::of(terms), *core, size, limit, log);
+            let run = model::replay(core, size, terms, limit, log);
             match run.end {
                 Outcome::Log(31) => Run { steps: followed.run.steps, ..run },
                 _ => run,
@@ -706,23 +720,23 @@ const WRONG_MACHINES: [WrongMachine; 80] = [
     ),
     other(
         "a replay with memory of no word is not refused",
-        Mistake::Replay(|core, size, rights, limit, log| model::replay(core, size.max(1), rights, limit, log)),
+        Mistake::Replay(|core, size, terms, limit, log| model::replay(core, size.max(1), terms, limit, log)),
     ),
     other(
         "a replay goes by the low 32 bits of the size",
-        Mistake::Replay(|core, size, rights, limit, log| model::replay(core, size as u32 as usize, rights, limit, log)),
+        Mistake::Replay(|core, size, terms, limit, log| model::replay(core, size as u32 as usize, terms, limit, log)),
     ),
     other(
         "a replay knows no address out of range",
-        Mistake::Replay(|core, size, rights, limit, log| match size {
-            1..65536 => model::replay(core, 65536, rights, limit, log),
-            _ => model::replay(core, size, rights, limit, log),
+        Mistake::Replay(|core, size, terms, limit, log| match size {
+            1..65536 => model::replay(core, 65536, terms, limit, log),
+            _ => model::replay(core, size, terms, limit, log),
         }),
     ),
     other(
         "a replay goes past its limit",
-        Mistake::Replay(|core, size, rights, limit, log| {
-            model::replay(core, size, rights, limit.max(log.len() as u32), log)
+        Mistake::Replay(|core, size, terms, limit, log| {
+            model::replay(core, size, terms, limit.max(log.len() as u32), log)
         }),
     ),
 ];

@@ -1,7 +1,7 @@
 //! The machine of document 01, written from its text alone, plainly and slowly: decoding looks a word up in
 //! a table made by encoding every operand of every row. It is the base of the wrong machines, and the measure
 //! for what the published Rust does not have: refusals, sheets, and document 02's order of word lists, the room
-//! for a log, the replay, and rights over memory pages where one is absent.
+//! for a log, the replay, rights over memory pages where one is absent, and the second edition of the instruction set.
 
 use std::cmp::Ordering;
 
@@ -130,6 +130,14 @@ fn place(operand: &Operand, value: u8) -> Option<u16> {
 /// The rights bytes of a run, if it was given any.
 pub type Rights<'a> = Option<&'a [u8]>;
 
+/// What a run is handed beside what it may change and its limit.
+#[derive(Clone, Copy)]
+pub struct Terms<'a> {
+    pub rights: Rights<'a>,
+    /// The edition's number: 1 or 2, where it is not refused.
+    pub edition: u16,
+}
+
 /// Tests an access by its address, the right that it needs, memory's length and the rights.
 pub type Access = fn(u16, u8, usize, Rights) -> Result<(), Fault>;
 
@@ -146,25 +154,25 @@ pub fn access(at: u16, need: u8, length: usize, rights: Rights) -> Result<(), Fa
     }
 }
 
-/// The rights that a run has, and what its accesses are tested by.
+/// What a run is handed, and what its accesses are tested by.
 #[derive(Clone, Copy)]
 pub struct Guard<'a> {
-    pub rights: Rights<'a>,
+    pub terms: Terms<'a>,
     pub access: Access,
 }
 
 impl<'a> Guard<'a> {
-    pub fn of(rights: Rights<'a>) -> Guard<'a> {
-        Guard { rights, access }
+    pub fn of(terms: Terms<'a>) -> Guard<'a> {
+        Guard { terms, access }
     }
 
     fn read(&self, at: u16, purpose: u32, length: usize) -> Result<(), Fault> {
         let need = if purpose == FETCH { right::EXECUTE } else { right::READ };
-        (self.access)(at, need, length, self.rights)
+        (self.access)(at, need, length, self.terms.rights)
     }
 
     fn write(&self, at: u16, length: usize) -> Result<(), Fault> {
-        (self.access)(at, right::WRITE, length, self.rights)
+        (self.access)(at, right::WRITE, length, self.terms.rights)
     }
 }
 
@@ -215,18 +223,30 @@ pub fn entry(purpose: u32, at: u16, word: u16) -> [u32; 2] {
 }
 
 /// The first host test that fails on what a step or a run is lent.
-fn host_test(memory: &[u16], marks: &[u8], rights: Rights) -> Result<(), Refusal> {
+fn host_test(memory: &[u16], marks: &[u8], terms: Terms) -> Result<(), Refusal> {
     length_test(memory.len())?;
     if marks.len() != memory.len() {
         return Err(Refusal(2));
     }
-    rights_test(rights)
+    terms_test(terms)
+}
+
+fn terms_test(terms: Terms) -> Result<(), Refusal> {
+    rights_test(terms.rights)?;
+    edition_test(terms.edition)
 }
 
 pub fn rights_test(rights: Rights) -> Result<(), Refusal> {
     match rights {
         Some(rights) if rights.len() != PAGES || rights.iter().any(|byte| *byte > 7) => Err(Refusal(32)),
         _ => Ok(()),
+    }
+}
+
+pub fn edition_test(edition: u16) -> Result<(), Refusal> {
+    match edition {
+        1 | 2 => Ok(()),
+        _ => Err(Refusal(34)),
     }
 }
 
@@ -238,8 +258,8 @@ fn length_test(length: usize) -> Result<(), Refusal> {
     }
 }
 
-pub fn step(core: &mut Core, memory: &mut [u16], marks: &mut [u8]) -> Outcome {
-    step_of_run(core, memory, marks, Guard::of(None), None)
+pub fn step(core: &mut Core, memory: &mut [u16], marks: &mut [u8], edition: u16) -> Outcome {
+    step_of_run(core, memory, marks, Guard::of(Terms { rights: None, edition }), None)
 }
 
 /// A step with a guard, whose rights are tested already, that adds its reads to the log, if there is one.
@@ -250,31 +270,37 @@ pub fn step_of_run(
     guard: Guard,
     log: Option<&mut Vec<u32>>,
 ) -> Outcome {
-    if let Err(refusal) = host_test(memory, marks, None) {
+    if let Err(refusal) = host_test(memory, marks, Terms { rights: None, ..guard.terms }) {
         return Outcome::Refused(refusal);
     }
     if core.is_halted() {
         return Outcome::Halted;
     }
-    turn(core, &mut Lent { memory, marks, guard, log })
+    turn(core, guard.terms.edition, &mut Lent { memory, marks, guard, log })
 }
 
 /// A step of a core that is not halted.
-fn turn(core: &mut Core, words: &mut dyn Words) -> Outcome {
-    match cycle(core, words) {
+fn turn(core: &mut Core, edition: u16, words: &mut dyn Words) -> Outcome {
+    match cycle(core, edition, words) {
         Ok(()) => Outcome::Stepped,
         Err(fault) => Outcome::Fault(fault),
     }
 }
 
-fn cycle(core: &mut Core, words: &mut dyn Words) -> Result<(), Fault> {
+fn cycle(core: &mut Core, edition: u16, words: &mut dyn Words) -> Result<(), Fault> {
     let word = words.read(core.ip, FETCH)?;
     core.ip = sum(core.ip, 1);
     let instruction = decode(word)?;
-    execute(core, instruction, word, words)
+    execute(core, instruction, word, edition, words)
 }
 
-fn execute(core: &mut Core, instruction: Instruction, word: u16, words: &mut dyn Words) -> Result<(), Fault> {
+fn execute(
+    core: &mut Core,
+    instruction: Instruction,
+    word: u16,
+    edition: u16,
+    words: &mut dyn Words,
+) -> Result<(), Fault> {
     let (first, second) = (instruction.first as usize, instruction.second as usize);
     let condition = core.ef / 2 % 2 == 1;
     match instruction.kind {
@@ -290,7 +316,7 @@ fn execute(core: &mut Core, instruction: Instruction, word: u16, words: &mut dyn
         SPADD => core.sp = sum(core.sp, core.r[first]),
         SPINC => core.sp = sum(core.sp, 1),
         SPDEC => core.sp = difference(core.sp, 1),
-        NOT..=MUL => core.r[first] = result(instruction.kind, core.r[first], core.r[second], condition)?,
+        NOT..=MUL => core.r[first] = result(instruction.kind, core.r[first], core.r[second], condition, edition)?,
         INV => set_condition(core, !condition),
         EQZ => set_condition(core, core.r[first] == 0),
         EQ => set_condition(core, core.r[first] == core.r[second]),
@@ -329,9 +355,9 @@ fn load_or_store(core: &mut Core, instruction: Instruction, words: &mut dyn Word
 }
 
 /// The kinds whose result goes to reg; val is the right operand.
-fn result(kind: u8, reg: u16, val: u16, condition: bool) -> Result<u16, Fault> {
+fn result(kind: u8, reg: u16, val: u16, condition: bool, edition: u16) -> Result<u16, Fault> {
     if matches!(kind, SHL | SHR | BITSET) && val >= 16 {
-        return Err(Fault { number: 13, value: val });
+        return by_16_or_more(kind, reg, val, edition);
     }
     let place = 2u32.pow(val as u32 % 16);
     Ok(match kind {
@@ -344,7 +370,7 @@ fn result(kind: u8, reg: u16, val: u16, condition: bool) -> Result<u16, Fault> {
         SHR => (reg as u32 / place) as u16,
         BITSET if condition => reg | place as u16,
         BITSET => reg & (65535 - place as u16),
-        NEG if reg == 0x8000 => return Err(Fault { number: 14, value: reg }),
+        NEG if reg == 0x8000 && edition == 1 => return Err(Fault { number: 14, value: reg }),
         NEG => low_word(65536 - reg as u32),
         INC => sum(reg, 1),
         DEC => difference(reg, 1),
@@ -353,6 +379,15 @@ fn result(kind: u8, reg: u16, val: u16, condition: bool) -> Result<u16, Fault> {
         MUL => low_word(reg as u32 * val as u32),
         _ => unreachable!(),
     })
+}
+
+/// Stop 13 in edition 1. In edition 2 a shift gives 0, and bitset leaves its register.
+fn by_16_or_more(kind: u8, reg: u16, val: u16, edition: u16) -> Result<u16, Fault> {
+    match (edition, kind) {
+        (1, _) => Err(Fault { number: 13, value: val }),
+        (_, BITSET) => Ok(reg),
+        _ => Ok(0),
+    }
 }
 
 fn low_word(number: u32) -> u16 {
@@ -381,10 +416,10 @@ fn set_condition(core: &mut Core, condition: bool) {
     core.ef = if condition { core.ef | 0x0002 } else { core.ef & 0xFFFD };
 }
 
-pub fn run(core: &mut Core, memory: &mut [u16], marks: &mut [u8], rights: Rights, limit: u32) -> Run {
-    let guard = Guard::of(rights);
+pub fn run(core: &mut Core, memory: &mut [u16], marks: &mut [u8], terms: Terms, limit: u32) -> Run {
+    let guard = Guard::of(terms);
     let step = |core: &mut Core, memory: &mut [u16], marks: &mut [u8]| step_of_run(core, memory, marks, guard, None);
-    run_by(step, core, memory, marks, rights, limit)
+    run_by(step, core, memory, marks, terms, limit)
 }
 
 /// A run by the step given, after the host tests.
@@ -393,10 +428,10 @@ pub fn run_by(
     core: &mut Core,
     memory: &mut [u16],
     marks: &mut [u8],
-    rights: Rights,
+    terms: Terms,
     limit: u32,
 ) -> Run {
-    if let Err(refusal) = host_test(memory, marks, rights) {
+    if let Err(refusal) = host_test(memory, marks, terms) {
         return Run { end: Outcome::Refused(refusal), steps: 0 };
     }
     marks.fill(0);
@@ -425,15 +460,15 @@ pub fn run_logged(
     core: &mut Core,
     memory: &mut [u16],
     marks: &mut [u8],
-    rights: Rights,
+    terms: Terms,
     limit: u32,
     log: &mut [u32],
 ) -> LoggedRun {
-    let guard = Guard::of(rights);
+    let guard = Guard::of(terms);
     let step = |core: &mut Core, memory: &mut [u16], marks: &mut [u8], words: &mut Vec<u32>| {
         step_of_run(core, memory, marks, guard, Some(words))
     };
-    run_logged_by(step, core, memory, marks, rights, limit, log)
+    run_logged_by(step, core, memory, marks, terms, limit, log)
 }
 
 /// A logged run by the step given, which adds its reads to the words logged.
@@ -442,7 +477,7 @@ pub fn run_logged_by(
     core: &mut Core,
     memory: &mut [u16],
     marks: &mut [u8],
-    rights: Rights,
+    terms: Terms,
     limit: u32,
     log: &mut [u32],
 ) -> LoggedRun {
@@ -451,7 +486,7 @@ pub fn run_logged_by(
         0..4 => Outcome::Log(30),
         _ => step(core, memory, marks, &mut words),
     };
-    let Run { end, steps } = run_by(step_with_room, core, memory, marks, rights, limit);
+    let Run { end, steps } = run_by(step_with_room, core, memory, marks, terms, limit);
     log[..words.len()].copy_from_slice(&words);
     LoggedRun { end, steps, logged: words.len() }
 }
@@ -500,17 +535,17 @@ pub struct Followed {
 
 pub fn follow(found: Found, guard: Guard, mut core: Core, size: usize, limit: u32, log: &[u32]) -> Followed {
     let mut tape = Tape { size, guard, rest: log, found };
-    let run = turns(|core| turn(core, &mut tape), &mut core, limit);
+    let run = turns(|core| turn(core, guard.terms.edition, &mut tape), &mut core, limit);
     Followed { core, run, left: tape.rest.len() }
 }
 
-pub fn replay(core: &mut Core, size: usize, rights: Rights, limit: u32, log: &[u32]) -> Run {
-    replay_by(found, Guard::of(rights), core, size, limit, log)
+pub fn replay(core: &mut Core, size: usize, terms: Terms, limit: u32, log: &[u32]) -> Run {
+    replay_by(found, Guard::of(terms), core, size, limit, log)
 }
 
 /// A replay that takes the words that `found` finds.
 pub fn replay_by(found: Found, guard: Guard, core: &mut Core, size: usize, limit: u32, log: &[u32]) -> Run {
-    if let Err(refusal) = length_test(size).and_then(|()| rights_test(guard.rights)) {
+    if let Err(refusal) = length_test(size).and_then(|()| terms_test(guard.terms)) {
         return Run { end: Outcome::Refused(refusal), steps: 0 };
     }
     let followed = follow(found, guard, *core, size, limit, log);
@@ -521,8 +556,8 @@ pub fn replay_by(found: Found, guard: Guard, core: &mut Core, size: usize, limit
     followed.run
 }
 
-pub fn load_words(core: &mut Core, words: &[u16], memory: &mut [u16]) -> Result<(), Refusal> {
-    *core = Core::new();
+pub fn load_words(core: &mut Core, edition: &mut u16, words: &[u16], memory: &mut [u16]) -> Result<(), Refusal> {
+    (*core, *edition) = (Core::new(), 1);
     length_test(memory.len())?;
     if words.len() > memory.len() {
         return Err(Refusal(3));
@@ -536,10 +571,11 @@ pub fn load_words(core: &mut Core, words: &[u16], memory: &mut [u16]) -> Result<
 const PLACE: u32 = 1;
 const WORD: u32 = 2;
 const PRESET: u32 = 3;
+const EDITION: u32 = 7;
 const END: u32 = 15;
 
-pub fn load_sheet(core: &mut Core, sheet: &[u32], memory: &mut [u16]) -> Result<(), Refusal> {
-    *core = Core::new();
+pub fn load_sheet(core: &mut Core, edition: &mut u16, sheet: &[u32], memory: &mut [u16]) -> Result<(), Refusal> {
+    (*core, *edition) = (Core::new(), 1);
     length_test(memory.len())?;
     sheet_test(sheet, memory.len())?;
     memory.fill(0);
@@ -552,6 +588,7 @@ pub fn load_sheet(core: &mut Core, sheet: &[u32], memory: &mut [u16]) -> Result<
                 address += 1;
             }
             PRESET => *register(core, (record >> 16) % 16) = record as u16,
+            EDITION => *edition = record as u16,
             _ => {}
         }
     }
@@ -559,12 +596,12 @@ pub fn load_sheet(core: &mut Core, sheet: &[u32], memory: &mut [u16]) -> Result<
 }
 
 /// The sheet's stops, record by record.
-fn sheet_test(sheet: &[u32], length: usize) -> Result<(), Refusal> {
+pub fn sheet_test(sheet: &[u32], length: usize) -> Result<(), Refusal> {
     let (mut address, mut words) = (0, 0);
     for (i, &record) in sheet.iter().enumerate() {
         let kind = record >> 28;
         let free_bits = match kind {
-            PLACE | WORD => 16,
+            PLACE | WORD | EDITION => 16,
             PRESET => 20,
             END => 28,
             _ => return Err(Refusal(20)),
@@ -574,6 +611,7 @@ fn sheet_test(sheet: &[u32], length: usize) -> Result<(), Refusal> {
         }
         match kind {
             PRESET if record >> 16 & 15 > 11 => return Err(Refusal(22)),
+            EDITION => edition_test(record as u16)?,
             PLACE => address = record as u16 as usize,
             WORD if address >= length => return Err(Refusal(23)),
             WORD => (address, words) = (address + 1, words + 1),
@@ -597,22 +635,24 @@ fn register(core: &mut Core, number: u32) -> &mut u16 {
     }
 }
 
-pub fn write_sheet(core: &Core, memory: &[u16], sheet: &mut [u32]) -> Result<usize, Refusal> {
+pub fn write_sheet(core: &Core, edition: u16, memory: &[u16], sheet: &mut [u32]) -> Result<usize, Refusal> {
     length_test(memory.len())?;
-    if sheet.len() < records(core, memory).count() {
+    edition_test(edition)?;
+    if sheet.len() < records(core, edition, memory).count() {
         return Err(Refusal(4));
     }
     let mut count = 0;
-    for record in records(core, memory) {
+    for record in records(core, edition, memory) {
         sheet[count] = record;
         count += 1;
     }
     Ok(count)
 }
 
-/// Presets 0 to 11, a place before each stretch of nonzero words, those words, the end.
-fn records<'a>(core: &Core, memory: &'a [u16]) -> impl Iterator<Item = u32> + 'a {
+/// The edition where it is 2, presets 0 to 11, a place before each stretch of nonzero words, those words, the end.
+fn records<'a>(core: &Core, edition: u16, memory: &'a [u16]) -> impl Iterator<Item = u32> + 'a {
     let mut core = *core;
+    let chosen = (edition == 2).then_some(EDITION << 28 | 2);
     let presets = (0..12).map(move |n| PRESET << 28 | n << 16 | *register(&mut core, n) as u32);
     let words = memory.iter().enumerate().filter(|(_, &word)| word != 0).flat_map(|(at, &word)| {
         let begins = at == 0 || memory[at - 1] == 0;
@@ -620,7 +660,7 @@ fn records<'a>(core: &Core, memory: &'a [u16]) -> impl Iterator<Item = u32> + 'a
         place.into_iter().chain([WORD << 28 | word as u32])
     });
     let count = memory.iter().filter(|&&word| word != 0).count() as u32;
-    presets.chain(words).chain([END << 28 | count])
+    chosen.into_iter().chain(presets).chain(words).chain([END << 28 | count])
 }
 
 /// Both lists followed by zeros to one length.

@@ -1,4 +1,4 @@
-//! A machine and the published Rust, step by step over the same program.
+//! A machine in edition 1 and the published Rust, step by step over the same program.
 
 use crate::machine::Machine;
 use crate::model;
@@ -48,7 +48,7 @@ impl<'a> Pair<'a> {
     pub fn step(&mut self, what: &str, report: &mut Report) -> Outcome {
         let before = self.core;
         let word = self.memory.get(before.ip as usize).copied();
-        let answer = self.machine.step(&mut self.core, &mut self.memory, &mut self.marks);
+        let answer = self.machine.step(&mut self.core, &mut self.memory, &mut self.marks, 1);
         let expected = self.reference.step();
         let kind = word.and_then(|word| model::decode(word).ok()).map(|instruction| instruction.kind);
         report.count_step(kind, expected);

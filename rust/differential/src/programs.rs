@@ -171,15 +171,15 @@ fn harmless(random: &mut Random) -> Vec<u16> {
 }
 
 /// A program of a counted loop around a body and a call of a function, which ends by hlt unless its data
-/// lead it astray. r7 points at `address`, and so does sp.
-pub fn structured(random: &mut Random, address: u16) -> Vec<u16> {
+/// lead it astray. r7 points at `address`, and so does sp. r6, by which it shifts, is below `amounts`.
+pub fn structured(random: &mut Random, address: u16, amounts: usize) -> Vec<u16> {
     let body = |random: &mut Random| -> Vec<u16> {
         let turns = 1 + random.below(12);
         let mut words: Vec<u16> = (0..turns).flat_map(|_| harmless(random)).collect();
         words.push(word(NOP, 0, 0)); // what a last cjmpoff may skip
         words
     };
-    let mut words = [set(7, address), set(6, random.below(16) as u16)].concat();
+    let mut words = [set(7, address), set(6, random.below(amounts) as u16)].concat();
     words.push(word(MOVSI, 2, 7));
     words.extend(set(5, 1 + random.below(30) as u16));
     let start = words.len();

@@ -223,7 +223,7 @@ fn number(end: Outcome) -> u8 {
 }
 
 /// The rights that a run used: those of its reads by the log, those of its writes by the marks.
-fn used(left: &Lent) -> Vec<u8> {
+pub fn used(left: &Lent) -> Vec<u8> {
     let mut used = vec![0; PAGES];
     for read in left.records.chunks(2) {
         used[page(read[0] as u16)] |= if read[0] & FETCH == 0 { right::READ } else { right::EXECUTE };

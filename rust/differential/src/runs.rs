@@ -1,6 +1,7 @@
-//! Whole programs: in lockstep, and as runs with limits around the place where they end.
+//! Whole programs in edition 1: in lockstep, and as runs with limits around the place where they end.
 
 use crate::machine::Machine;
+use crate::model::Terms;
 use crate::pair::Pair;
 use crate::programs::{full_memory, loops, structured};
 use crate::random::Random;
@@ -9,6 +10,9 @@ use crate::report::Report;
 use crate::states::{self, edges};
 use crate::work::works;
 use nilguseg::{Core, Outcome, Run};
+
+/// Without rights, in the edition that the published Rust measures.
+const FIRST: Terms = Terms { rights: None, edition: 1 };
 
 /// A core and a memory to begin with.
 pub struct Program {
@@ -28,16 +32,21 @@ fn random_length(random: &mut Random) -> usize {
 /// Random content and a random core; one time in four a structured program and a fresh core.
 pub fn random_program(random: &mut Random) -> Program {
     if random.one_in(4) {
-        let length = random.pick(&[160, 255, 4096, 32768, 65536]);
-        let address = (length - random.below(48)) as u16;
-        let words = structured(random, address);
-        let mut memory = vec![0; length];
-        memory[..words.len()].copy_from_slice(&words);
-        return Program { core: Core::new(), memory };
+        return structured_program(random, 16);
     }
     let length = random_length(random);
     let core = states::core(random, &edges(length), length);
     Program { core, memory: states::content(random, length, core.ip) }
+}
+
+/// A structured program that shifts by amounts below the number given, and a fresh core.
+pub fn structured_program(random: &mut Random, amounts: usize) -> Program {
+    let length = random.pick(&[160, 255, 4096, 32768, 65536]);
+    let address = (length - random.below(48)) as u16;
+    let words = structured(random, address, amounts);
+    let mut memory = vec![0; length];
+    memory[..words.len()].copy_from_slice(&words);
+    Program { core: Core::new(), memory }
 }
 
 /// Programs in lockstep, until `steps` steps are compared. A program goes on after a fault, and now and then
@@ -120,7 +129,7 @@ fn compare_run(machine: &dyn Machine, program: &Program, limit: u32, report: &mu
 
     // marks that the run has to clear first
     let (mut core, mut memory, mut marks) = (program.core, program.memory.clone(), vec![0xA7; length]);
-    let run = machine.run(&mut core, &mut memory, &mut marks, None, limit);
+    let run = machine.run(&mut core, &mut memory, &mut marks, FIRST, limit);
     let same_memory = memory == reference.words() && marks == reference.marks();
     if run != expected || core != reference.registers() || !same_memory {
         report.disagree("a run", || {

@@ -18,14 +18,21 @@ pub const SECOND: u32 = 2;
 unsafe extern "C" {
     pub safe fn nilguseg_decode(word: u16) -> u32;
     pub safe fn nilguseg_encode(kind: u8, first: u8, second: u8) -> u32;
-    pub fn nilguseg_step(core: *mut Core, memory: *mut u16, memory_len: usize, marks: *mut u8, marks_len: usize)
-        -> u32;
+    pub fn nilguseg_step(
+        core: *mut Core,
+        memory: *mut u16,
+        memory_len: usize,
+        marks: *mut u8,
+        marks_len: usize,
+        edition: u16,
+    ) -> u32;
     pub fn nilguseg_run(
         core: *mut Core,
         memory: *mut u16,
         memory_len: usize,
         marks: *mut u8,
         marks_len: usize,
+        edition: u16,
         limit: u32,
     ) -> u64;
     pub fn nilguseg_run_guarded(
@@ -36,6 +43,7 @@ unsafe extern "C" {
         marks_len: usize,
         rights: *const u8,
         rights_len: usize,
+        edition: u16,
         limit: u32,
     ) -> u64;
     pub fn nilguseg_run_logged(
@@ -44,6 +52,7 @@ unsafe extern "C" {
         memory_len: usize,
         marks: *mut u8,
         marks_len: usize,
+        edition: u16,
         limit: u32,
         log: *mut u32,
         log_len: usize,
@@ -57,23 +66,33 @@ unsafe extern "C" {
         marks_len: usize,
         rights: *const u8,
         rights_len: usize,
+        edition: u16,
         limit: u32,
         log: *mut u32,
         log_len: usize,
         logged: *mut usize,
     ) -> u64;
-    pub fn nilguseg_replay(core: *mut Core, size: usize, limit: u32, log: *const u32, log_len: usize) -> u64;
+    pub fn nilguseg_replay(
+        core: *mut Core,
+        size: usize,
+        edition: u16,
+        limit: u32,
+        log: *const u32,
+        log_len: usize,
+    ) -> u64;
     pub fn nilguseg_replay_guarded(
         core: *mut Core,
         size: usize,
         rights: *const u8,
         rights_len: usize,
+        edition: u16,
         limit: u32,
         log: *const u32,
         log_len: usize,
     ) -> u64;
     pub fn nilguseg_load_words(
         core: *mut Core,
+        edition: *mut u16,
         words: *const u16,
         words_len: usize,
         memory: *mut u16,
@@ -81,6 +100,7 @@ unsafe extern "C" {
     ) -> u32;
     pub fn nilguseg_load_sheet(
         core: *mut Core,
+        edition: *mut u16,
         sheet: *const u32,
         sheet_len: usize,
         memory: *mut u16,
@@ -88,6 +108,7 @@ unsafe extern "C" {
     ) -> u32;
     pub fn nilguseg_write_sheet(
         core: *const Core,
+        edition: u16,
         memory: *const u16,
         memory_len: usize,
         sheet: *mut u32,
@@ -131,25 +152,28 @@ mod tests {
     }
 
     /// The answers to one step and to a run of at most one, of `word` alone in memory.
-    fn answers(word: u16, ef: u16, marks_len: usize) -> (u32, u64) {
+    fn answers(word: u16, ef: u16, marks_len: usize, edition: u16) -> (u32, u64) {
         let (mut memory, mut marks) = ([word], vec![0; marks_len]);
         let [mut stepped, mut ran] = [Core { ef, ..Core::new() }; 2];
         // SAFETY: pointers and lengths are those of slices.
         unsafe {
             (
-                nilguseg_step(&mut stepped, memory.as_mut_ptr(), 1, marks.as_mut_ptr(), marks_len),
-                nilguseg_run(&mut ran, memory.as_mut_ptr(), 1, marks.as_mut_ptr(), marks_len, 1),
+                nilguseg_step(&mut stepped, memory.as_mut_ptr(), 1, marks.as_mut_ptr(), marks_len, edition),
+                nilguseg_run(&mut ran, memory.as_mut_ptr(), 1, marks.as_mut_ptr(), marks_len, edition, 1),
             )
         }
     }
 
     #[test]
     fn a_step_and_a_run_answer_by_one_numbering() {
-        assert_eq!(answers(0x1003, 0, 1), (0, 0x0200_0000_0000_0001));
-        assert_eq!(answers(0xFFFF, 0, 1), (0, 0x0100_0000_0000_0001));
-        assert_eq!(answers(0x1003, 1, 1), (0x0100_0000, 0x0100_0000_0000_0000));
-        assert_eq!(answers(0x4600, 0, 1), (0x030A_4600, 0x030A_4600_0000_0000));
-        assert_eq!(answers(0x1003, 0, 2), (0x0402_0000, 0x0402_0000_0000_0000));
+        for edition in [1, 2] {
+            assert_eq!(answers(0x1003, 0, 1, edition), (0, 0x0200_0000_0000_0001));
+            assert_eq!(answers(0xFFFF, 0, 1, edition), (0, 0x0100_0000_0000_0001));
+            assert_eq!(answers(0x1003, 1, 1, edition), (0x0100_0000, 0x0100_0000_0000_0000));
+            assert_eq!(answers(0x4600, 0, 1, edition), (0x030A_4600, 0x030A_4600_0000_0000));
+            assert_eq!(answers(0x1003, 0, 2, edition), (0x0402_0000, 0x0402_0000_0000_0000));
+        }
+        assert_eq!(answers(0x1003, 0, 1, 3), (0x0422_0000, 0x0422_0000_0000_0000));
     }
 
     /// The answers to a logged run of at most `limit` steps, of `word` alone in memory and with room for eight log words, and
@@ -161,8 +185,8 @@ mod tests {
         unsafe {
             let (memory, marks) = (memory.as_mut_ptr(), marks.as_mut_ptr());
             let run =
-                nilguseg_run_logged(&mut ran, memory, 1, marks, marks_len, limit, log.as_mut_ptr(), 8, &mut logged);
-            (run, nilguseg_replay(&mut seen, 1, limit, log.as_ptr(), logged), logged)
+                nilguseg_run_logged(&mut ran, memory, 1, marks, marks_len, 1, limit, log.as_mut_ptr(), 8, &mut logged);
+            (run, nilguseg_replay(&mut seen, 1, 1, limit, log.as_ptr(), logged), logged)
         }
     }
 
@@ -176,7 +200,7 @@ mod tests {
     }
 
     /// The answers to a guarded run of at most one step, of `word` alone in memory, to the same with a log, and to its replay.
-    fn guarded_answers(word: u16, rights: &[u8]) -> [u64; 3] {
+    fn guarded_answers(word: u16, rights: &[u8], edition: u16) -> [u64; 3] {
         let (mut memory, mut marks, mut log, mut logged) = ([word], [0], [0; 8], 99);
         let [mut plain, mut ran, mut seen] = [Core::new(); 3];
         // SAFETY: pointers and lengths are those of slices, and the log has no more words than its length.
@@ -184,19 +208,33 @@ mod tests {
             let (memory, marks) = (memory.as_mut_ptr(), marks.as_mut_ptr());
             let (rights, count, log) = (rights.as_ptr(), rights.len(), log.as_mut_ptr());
             [
-                nilguseg_run_guarded(&mut plain, memory, 1, marks, 1, rights, count, 1),
-                nilguseg_run_logged_guarded(&mut ran, memory, 1, marks, 1, rights, count, 1, log, 8, &mut logged),
-                nilguseg_replay_guarded(&mut seen, 1, rights, count, 1, log, logged),
+                nilguseg_run_guarded(&mut plain, memory, 1, marks, 1, rights, count, edition, 1),
+                nilguseg_run_logged_guarded(
+                    &mut ran,
+                    memory,
+                    1,
+                    marks,
+                    1,
+                    rights,
+                    count,
+                    edition,
+                    1,
+                    log,
+                    8,
+                    &mut logged,
+                ),
+                nilguseg_replay_guarded(&mut seen, 1, rights, count, edition, 1, log, logged),
             ]
         }
     }
 
     #[test]
     fn guarded_calls_answer_by_it_too() {
-        assert_eq!(guarded_answers(0x1003, &[4; 256]), [0x0200_0000_0000_0001; 3]);
-        assert_eq!(guarded_answers(0x1003, &[3; 256]), [0x0321_0000_0000_0000; 3]);
-        assert_eq!(guarded_answers(0x23D0, &[7; 256]), [0x030B_FFFE_0000_0000; 3]);
-        assert_eq!(guarded_answers(0x1003, &[8; 256]), [0x0420_0000_0000_0000; 3]);
-        assert_eq!(guarded_answers(0x1003, &[7; 257]), [0x0420_0000_0000_0000; 3]);
+        assert_eq!(guarded_answers(0x1003, &[4; 256], 1), [0x0200_0000_0000_0001; 3]);
+        assert_eq!(guarded_answers(0x1003, &[3; 256], 1), [0x0321_0000_0000_0000; 3]);
+        assert_eq!(guarded_answers(0x23D0, &[7; 256], 2), [0x030B_FFFE_0000_0000; 3]);
+        assert_eq!(guarded_answers(0x1003, &[8; 256], 2), [0x0420_0000_0000_0000; 3]);
+        assert_eq!(guarded_answers(0x1003, &[7; 257], 3), [0x0420_0000_0000_0000; 3]);
+        assert_eq!(guarded_answers(0x1003, &[7; 256], 3), [0x0422_0000_0000_0000; 3]);
     }
 }

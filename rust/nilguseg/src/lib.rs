@@ -1,14 +1,15 @@
 //! Nilguseg, the proved Delta Null interpreter, for Rust hosts: safe functions over the static library.
 //!
 //! Nothing is tested here that the library tests itself: lengths that do not fit are refused by it, with the
-//! numbers of document 01, and a refused call leaves what was lent unchanged.
+//! numbers of document 01, and a refused call leaves what was lent unchanged. Editions are numbers, 1 or 2, and are tested there
+//! too.
 //!
 //! ```
 //! use nilguseg::{Core, Outcome};
 //! let mut memory = [0x1003, 0xFFFF]; // putl r0 3, hlt
 //! let mut marks = [0; 2];
 //! let mut core = Core::new();
-//! let run = core.run(&mut memory, &mut marks, 2);
+//! let run = core.run(&mut memory, &mut marks, 1, 2); // in edition 1, at most 2 steps
 //! assert_eq!((run.end, run.steps, core.r[0]), (Outcome::Halted, 2, 3));
 //! ```
 
@@ -36,24 +37,32 @@ pub fn encode(instruction: Instruction) -> Option<u16> {
 
 impl Core {
     /// One step. Adds to the marks and clears none.
-    pub fn step(&mut self, memory: &mut [u16], marks: &mut [u8]) -> Outcome {
+    pub fn step(&mut self, memory: &mut [u16], marks: &mut [u8], edition: u16) -> Outcome {
         // SAFETY: pointers and lengths are those of slices, and Core has the layout of the C struct.
-        let answer =
-            unsafe { ffi::nilguseg_step(self, memory.as_mut_ptr(), memory.len(), marks.as_mut_ptr(), marks.len()) };
+        let answer = unsafe {
+            ffi::nilguseg_step(self, memory.as_mut_ptr(), memory.len(), marks.as_mut_ptr(), marks.len(), edition)
+        };
         outcome(answer)
     }
 
     /// Steps until halt, the limit or a fault. First sets all marks to 0; then 1 is read before written, 2 written.
-    pub fn run(&mut self, memory: &mut [u16], marks: &mut [u8], limit: u32) -> Run {
+    pub fn run(&mut self, memory: &mut [u16], marks: &mut [u8], edition: u16, limit: u32) -> Run {
         // SAFETY: as in `step`.
         let answer = unsafe {
-            ffi::nilguseg_run(self, memory.as_mut_ptr(), memory.len(), marks.as_mut_ptr(), marks.len(), limit)
+            ffi::nilguseg_run(self, memory.as_mut_ptr(), memory.len(), marks.as_mut_ptr(), marks.len(), edition, limit)
         };
         run(answer)
     }
 
     /// `run` with rights, one byte for each page: the sum of what `right` has. An access whose right is absent is fault 33.
-    pub fn run_guarded(&mut self, memory: &mut [u16], marks: &mut [u8], rights: &[u8], limit: u32) -> Run {
+    pub fn run_guarded(
+        &mut self,
+        memory: &mut [u16],
+        marks: &mut [u8],
+        rights: &[u8],
+        edition: u16,
+        limit: u32,
+    ) -> Run {
         // SAFETY: as in `step`.
         let answer = unsafe {
             ffi::nilguseg_run_guarded(
@@ -64,6 +73,7 @@ impl Core {
                 marks.len(),
                 rights.as_ptr(),
                 rights.len(),
+                edition,
                 limit,
             )
         };
@@ -72,7 +82,14 @@ impl Core {
 
     /// `run` with a log of its reads: two words each, at the front of `log`. Ends by 30 where fewer than four are free before
     /// a step; four for each step of the limit always suffice.
-    pub fn run_logged(&mut self, memory: &mut [u16], marks: &mut [u8], limit: u32, log: &mut [u32]) -> LoggedRun {
+    pub fn run_logged(
+        &mut self,
+        memory: &mut [u16],
+        marks: &mut [u8],
+        edition: u16,
+        limit: u32,
+        log: &mut [u32],
+    ) -> LoggedRun {
         let mut logged = 0;
         // SAFETY: as in `step`, and `logged` is a number of its own.
         let answer = unsafe {
@@ -82,6 +99,7 @@ impl Core {
                 memory.len(),
                 marks.as_mut_ptr(),
                 marks.len(),
+                edition,
                 limit,
                 log.as_mut_ptr(),
                 log.len(),
@@ -97,6 +115,7 @@ impl Core {
         memory: &mut [u16],
         marks: &mut [u8],
         rights: &[u8],
+        edition: u16,
         limit: u32,
         log: &mut [u32],
     ) -> LoggedRun {
@@ -111,6 +130,7 @@ impl Core {
                 marks.len(),
                 rights.as_ptr(),
                 rights.len(),
+                edition,
                 limit,
                 log.as_mut_ptr(),
                 log.len(),
@@ -120,43 +140,42 @@ impl Core {
         logged_run(answer, logged)
     }
 
-    /// A logged run seen again, of the core that it started with, the length of its memory, its limit and the words of its log:
-    /// its end and steps, and the core becomes the one that it left. Where its reads are not the log's, the end is 31 and the
-    /// core stays.
-    pub fn replay(&mut self, size: usize, limit: u32, log: &[u32]) -> Run {
+    /// A logged run seen again, of the core that it started with, the length of its memory, its edition, its limit and the words
+    /// of its log: its end and steps, and the core becomes the one that it left. Where its reads are not the log's, the end is 31
+    /// and the core stays.
+    pub fn replay(&mut self, size: usize, edition: u16, limit: u32, log: &[u32]) -> Run {
         // SAFETY: as in `step`.
-        run(unsafe { ffi::nilguseg_replay(self, size, limit, log.as_ptr(), log.len()) })
+        run(unsafe { ffi::nilguseg_replay(self, size, edition, limit, log.as_ptr(), log.len()) })
     }
 
     /// `replay` of a run with rights, which must be those of the run.
-    pub fn replay_guarded(&mut self, size: usize, rights: &[u8], limit: u32, log: &[u32]) -> Run {
+    pub fn replay_guarded(&mut self, size: usize, rights: &[u8], edition: u16, limit: u32, log: &[u32]) -> Run {
+        let (bytes, count) = (rights.as_ptr(), rights.len());
         // SAFETY: as in `step`.
-        run(unsafe {
-            ffi::nilguseg_replay_guarded(self, size, rights.as_ptr(), rights.len(), limit, log.as_ptr(), log.len())
-        })
+        run(unsafe { ffi::nilguseg_replay_guarded(self, size, bytes, count, edition, limit, log.as_ptr(), log.len()) })
     }
 
-    /// Zeroes memory and copies the words to its beginning. The core becomes a fresh one, also where it refuses.
-    pub fn load_words(&mut self, words: &[u16], memory: &mut [u16]) -> Result<(), Refusal> {
-        // SAFETY: as in `step`.
+    /// Zeroes memory and copies the words to its beginning. The core becomes a fresh one and the edition 1, also where it refuses.
+    pub fn load_words(&mut self, edition: &mut u16, words: &[u16], memory: &mut [u16]) -> Result<(), Refusal> {
+        // SAFETY: as in `step`, and `edition` is a number of its own.
         refusal(unsafe {
-            ffi::nilguseg_load_words(self, words.as_ptr(), words.len(), memory.as_mut_ptr(), memory.len())
+            ffi::nilguseg_load_words(self, edition, words.as_ptr(), words.len(), memory.as_mut_ptr(), memory.len())
         })
     }
 
-    /// Sets memory and core as the sheet says. The core becomes a fresh one where it refuses.
-    pub fn load_sheet(&mut self, sheet: &[u32], memory: &mut [u16]) -> Result<(), Refusal> {
-        // SAFETY: as in `step`.
+    /// Sets memory, core and edition as the sheet says. The core becomes a fresh one and the edition 1 where it refuses.
+    pub fn load_sheet(&mut self, edition: &mut u16, sheet: &[u32], memory: &mut [u16]) -> Result<(), Refusal> {
+        // SAFETY: as in `load_words`.
         refusal(unsafe {
-            ffi::nilguseg_load_sheet(self, sheet.as_ptr(), sheet.len(), memory.as_mut_ptr(), memory.len())
+            ffi::nilguseg_load_sheet(self, edition, sheet.as_ptr(), sheet.len(), memory.as_mut_ptr(), memory.len())
         })
     }
 
-    /// Writes the sheet that restores this core and memory, and answers how many records it has.
-    pub fn write_sheet(&self, memory: &[u16], sheet: &mut [u32]) -> Result<usize, Refusal> {
+    /// Writes the sheet that restores this core, edition and memory, and answers how many records it has.
+    pub fn write_sheet(&self, edition: u16, memory: &[u16], sheet: &mut [u32]) -> Result<usize, Refusal> {
+        let (records, room) = (sheet.as_mut_ptr(), sheet.len());
         // SAFETY: as in `step`.
-        let answer =
-            unsafe { ffi::nilguseg_write_sheet(self, memory.as_ptr(), memory.len(), sheet.as_mut_ptr(), sheet.len()) };
+        let answer = unsafe { ffi::nilguseg_write_sheet(self, edition, memory.as_ptr(), memory.len(), records, room) };
         refusal((answer >> 32) as u32)?;
         Ok(answer as u32 as usize)
     }

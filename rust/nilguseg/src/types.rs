@@ -38,6 +38,7 @@ impl Default for Core {
 }
 
 /// A stop that the rule words cause: 10 undecodable, 11 out of range, 12 to 14 where the published Rust panics, 33 a right absent.
+/// In edition 2 there are no 13 and 14.
 #[derive(Debug, Clone, Copy, PartialEq, Eq)]
 pub struct Fault {
     pub number: u8,
@@ -45,7 +46,7 @@ pub struct Fault {
     pub value: u16,
 }
 
-/// A stop by which a call is refused: 1 to 4 and 32 the host's, 20 to 26 the sheet's.
+/// A stop by which a call is refused: 1 to 4 and 32 the host's, 20 to 26 the sheet's, and 34, an edition neither 1 nor 2, of both.
 #[derive(Debug, Clone, Copy, PartialEq, Eq)]
 pub struct Refusal(pub u8);
 

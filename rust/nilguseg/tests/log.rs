@@ -50,19 +50,19 @@ fn fault(number: u8, value: u16) -> Outcome {
 fn run_logged(start: Core, memory: &[u16], limit: u32, room: usize) -> (Run, Core, Vec<u32>) {
     let (mut core, mut words, mut marks) = (start, memory.to_vec(), vec![0xA4; memory.len()]);
     let mut log = vec![UNUSED; room];
-    let LoggedRun { end, steps, logged } = core.run_logged(&mut words, &mut marks, limit, &mut log);
+    let LoggedRun { end, steps, logged } = core.run_logged(&mut words, &mut marks, 1, limit, &mut log);
     assert!(log.drain(logged..).all(|word| word == UNUSED));
 
     let (mut plain, mut plain_words, mut plain_marks) = (start, memory.to_vec(), vec![0xFF; memory.len()]);
     let (plain_limit, plain_end) = if end == FULL { (steps, Outcome::Limit) } else { (limit, end) };
-    let run = plain.run(&mut plain_words, &mut plain_marks, plain_limit);
+    let run = plain.run(&mut plain_words, &mut plain_marks, 1, plain_limit);
     assert_eq!(run, Run { end: plain_end, steps });
     assert_eq!((core, words, marks), (plain, plain_words, plain_marks));
     (Run { end, steps }, core, log)
 }
 
 fn replay(mut core: Core, size: usize, limit: u32, log: &[u32]) -> (Run, Core) {
-    let run = core.replay(size, limit, log);
+    let run = core.replay(size, 1, limit, log);
     (run, core)
 }
 
@@ -182,7 +182,7 @@ fn a_refused_run_changes_nothing_and_logs_nothing() {
         for room in [0, 8] {
             let (mut core, mut memory, mut marks) = (START, vec![0x1003; memory_len], vec![0xA4; marks_len]);
             let mut log = vec![UNUSED; room];
-            let run = core.run_logged(&mut memory, &mut marks, 5, &mut log);
+            let run = core.run_logged(&mut memory, &mut marks, 1, 5, &mut log);
             assert_eq!(run, LoggedRun { end: Outcome::Refused(Refusal(number)), steps: 0, logged: 0 });
             assert_eq!((core, log), (START, vec![UNUSED; room]));
             assert!(memory.iter().all(|&word| word == 0x1003) && marks.iter().all(|&mark| mark == 0xA4));
@@ -193,7 +193,7 @@ fn a_refused_run_changes_nothing_and_logs_nothing() {
 #[test]
 fn a_replay_gives_end_steps_and_core_without_the_memory() {
     let (mut core, mut memory, mut marks, mut log) = (START, PROGRAM, [0; 10], [UNUSED; 40]);
-    let run = core.run_logged(&mut memory, &mut marks, 100, &mut log);
+    let run = core.run_logged(&mut memory, &mut marks, 1, 100, &mut log);
     memory.fill(0xBEEF);
     assert_eq!(replay(START, 10, 100, &log[..run.logged]), (HALTED, core));
     assert_eq!(memory, [0xBEEF; 10]);
@@ -329,12 +329,13 @@ fn words_in(text: &str) -> Vec<u32> {
     fields.filter(|field| field.len() == 8).map_while(|field| u32::from_str_radix(field, 16).ok()).collect()
 }
 
-/// The core and the memory of a sample as berth has them, the log of its run, and the core that it leaves.
+/// The core of a sample, of edition 1, as berth has it, the log of its run, and the core that it leaves.
 fn sample(sheet: &str) -> (Core, Vec<u32>, Core) {
     let (mut start, mut memory, mut marks, mut log) = (Core::new(), vec![0; 32768], vec![0; 32768], vec![UNUSED; 64]);
-    assert_eq!(start.load_sheet(&words_in(sheet), &mut memory), Ok(()));
+    let mut edition = 0;
+    assert_eq!((start.load_sheet(&mut edition, &words_in(sheet), &mut memory), edition), (Ok(()), 1));
     let mut core = start;
-    let run = core.run_logged(&mut memory, &mut marks, 1_000_000, &mut log);
+    let run = core.run_logged(&mut memory, &mut marks, edition, 1_000_000, &mut log);
     assert_eq!(run.end, Outcome::Halted);
     log.truncate(run.logged);
     (start, log, core)
@@ -352,14 +353,14 @@ fn the_logs_that_the_page_shows() {
     assert_eq!((shown(before_tie), end.r[1]), (log.clone(), 4));
     log[7] = 0x5000_0007;
     let mut seen = start;
-    assert_eq!((seen.replay(32768, 1_000_000, &log).end, seen.r[1]), (Outcome::Halted, 8));
+    assert_eq!((seen.replay(32768, 1, 1_000_000, &log).end, seen.r[1]), (Outcome::Halted, 8));
 
     let (start, log, end) = sample(include_str!("../../../samples/tie.sheet"));
     assert_eq!((shown(tie), end.r[4]), (log.clone(), 1));
     let mut seen = start;
-    assert_eq!(seen.replay(32768, 1_000_000, &log), Run { end: Outcome::Halted, steps: 11 });
+    assert_eq!(seen.replay(32768, 1, 1_000_000, &log), Run { end: Outcome::Halted, steps: 11 });
     assert_eq!(seen, end);
     let mut exchanged = start;
     exchanged.r.swap(2, 3);
-    assert_eq!((exchanged.replay(32768, 1_000_000, &log).steps, exchanged.r[4]), (11, 0));
+    assert_eq!((exchanged.replay(32768, 1, 1_000_000, &log).steps, exchanged.r[4]), (11, 0));
 }

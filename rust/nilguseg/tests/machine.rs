@@ -16,7 +16,7 @@ fn instruction(kind: u8, first: u8, second: u8) -> Instruction {
 fn step_once(mut core: Core, length: usize, word: u16) -> (Outcome, Core) {
     let (mut memory, mut marks) = (vec![0; length], vec![0; length]);
     memory[core.ip as usize] = word;
-    let step = core.step(&mut memory, &mut marks);
+    let step = core.step(&mut memory, &mut marks, 1);
     (step, core)
 }
 
@@ -87,9 +87,9 @@ fn shifts_and_negation_stop_where_the_rust_panics() {
 fn a_halted_core_is_left_alone() {
     let mut core = Core { ef: 1, ..BUSY };
     let (mut memory, mut marks) = (EXAMPLE, [0xA4; 2]);
-    assert_eq!(core.step(&mut memory, &mut marks), Outcome::Halted);
+    assert_eq!(core.step(&mut memory, &mut marks, 1), Outcome::Halted);
     assert_eq!((core, memory, marks), (Core { ef: 1, ..BUSY }, EXAMPLE, [0xA4; 2]));
-    assert_eq!(core.run(&mut memory, &mut marks, 0), Run { end: Outcome::Halted, steps: 0 });
+    assert_eq!(core.run(&mut memory, &mut marks, 1, 0), Run { end: Outcome::Halted, steps: 0 });
     assert_eq!(marks, [0; 2], "a run clears the marks");
 }
 
@@ -97,12 +97,12 @@ fn a_halted_core_is_left_alone() {
 fn the_example_runs_to_its_end_or_its_limit() {
     let (mut memory, mut marks) = (EXAMPLE, [0xFF; 2]);
     let mut core = Core::new();
-    assert_eq!(core.run(&mut memory, &mut marks, 2), Run { end: Outcome::Halted, steps: 2 });
+    assert_eq!(core.run(&mut memory, &mut marks, 1, 2), Run { end: Outcome::Halted, steps: 2 });
     assert_eq!(core, Core { ip: 2, ef: 1, ..with_registers(3, 0) });
     assert_eq!((memory, marks), (EXAMPLE, [1, 1]));
 
     let mut core = Core::new();
-    assert_eq!(core.run(&mut memory, &mut marks, 1), Run { end: Outcome::Limit, steps: 1 });
+    assert_eq!(core.run(&mut memory, &mut marks, 1, 1), Run { end: Outcome::Limit, steps: 1 });
     assert_eq!((core.ip, marks), (1, [1, 0]));
 }
 
@@ -111,7 +111,7 @@ fn a_step_adds_to_the_marks() {
     let mut memory = [0x2081, 0]; // write r1 at the address in r0
     let mut core = with_registers(1, 7);
     let mut marks = [0xA4, 0xA1];
-    assert_eq!(core.step(&mut memory, &mut marks), Outcome::Stepped);
+    assert_eq!(core.step(&mut memory, &mut marks, 1), Outcome::Stepped);
     assert_eq!((memory, marks), ([0x2081, 7], [0xA5, 0xA3]));
 }
 
@@ -121,7 +121,7 @@ fn a_fault_is_not_counted_and_keeps_what_was_written() {
     let mut marks = [0; 3];
     let mut core = with_registers(2, 7);
     let end = Outcome::Fault(Fault { number: 10, value: 0x2158 });
-    assert_eq!(core.run(&mut memory, &mut marks, 9), Run { end, steps: 1 });
+    assert_eq!(core.run(&mut memory, &mut marks, 1, 9), Run { end, steps: 1 });
     assert_eq!((core.ip, memory, marks), (2, [0x2081, 0x2158, 7], [1, 1, 2]));
 }
 
@@ -129,8 +129,8 @@ fn a_fault_is_not_counted_and_keeps_what_was_written() {
 fn assert_refused(memory_len: usize, marks_len: usize, number: u8) {
     let (mut memory, mut marks) = (vec![0x1003; memory_len], vec![0xA4; marks_len]);
     let mut core = BUSY;
-    assert_eq!(core.step(&mut memory, &mut marks), Outcome::Refused(Refusal(number)));
-    let run = core.run(&mut memory, &mut marks, 5);
+    assert_eq!(core.step(&mut memory, &mut marks, 1), Outcome::Refused(Refusal(number)));
+    let run = core.run(&mut memory, &mut marks, 1, 5);
     assert_eq!(run, Run { end: Outcome::Refused(Refusal(number)), steps: 0 });
     assert_eq!(core, BUSY);
     assert!(memory.iter().all(|&word| word == 0x1003) && marks.iter().all(|&mark| mark == 0xA4));
@@ -149,24 +149,24 @@ fn wrong_lengths_are_refused_in_number_order() {
 
 #[test]
 fn a_word_list_is_loaded_whole_or_not_at_all() {
-    let (mut core, mut memory) = (BUSY, [0xBEEF; 3]);
-    assert_eq!(core.load_words(&EXAMPLE, &mut memory), Ok(()));
-    assert_eq!((core, memory), (Core::new(), [0x1003, 0xFFFF, 0]));
+    let (mut core, mut edition, mut memory) = (BUSY, 7, [0xBEEF; 3]);
+    assert_eq!(core.load_words(&mut edition, &EXAMPLE, &mut memory), Ok(()));
+    assert_eq!((core, edition, memory), (Core::new(), 1, [0x1003, 0xFFFF, 0]));
 
-    let (mut core, mut memory) = (BUSY, [0xBEEF; 1]);
-    assert_eq!(core.load_words(&EXAMPLE, &mut memory), Err(Refusal(3)));
-    assert_eq!((core, memory), (Core::new(), [0xBEEF]));
-    assert_eq!(core.load_words(&EXAMPLE, &mut []), Err(Refusal(1)));
+    let (mut core, mut edition, mut memory) = (BUSY, 7, [0xBEEF; 1]);
+    assert_eq!(core.load_words(&mut edition, &EXAMPLE, &mut memory), Err(Refusal(3)));
+    assert_eq!((core, edition, memory), (Core::new(), 1, [0xBEEF]));
+    assert_eq!(core.load_words(&mut edition, &EXAMPLE, &mut []), Err(Refusal(1)));
 }
 
 #[test]
 fn a_sheet_sets_words_and_registers() {
-    let (mut core, mut memory) = (BUSY, [0xBEEF; 4]);
-    assert_eq!(core.load_sheet(&EXAMPLE_SHEET, &mut memory), Ok(()));
-    assert_eq!((core, memory), (Core::new(), [0x1003, 0xFFFF, 0, 0]));
+    let (mut core, mut edition, mut memory) = (BUSY, 7, [0xBEEF; 4]);
+    assert_eq!(core.load_sheet(&mut edition, &EXAMPLE_SHEET, &mut memory), Ok(()));
+    assert_eq!((core, edition, memory), (Core::new(), 1, [0x1003, 0xFFFF, 0, 0]));
 
     let sheet = [0x1000_0002, 0x2000_0007, 0x3008_0002, 0x300B_0003, 0x3008_0001, 0xF000_0001];
-    assert_eq!(core.load_sheet(&sheet, &mut memory), Ok(()));
+    assert_eq!(core.load_sheet(&mut edition, &sheet, &mut memory), Ok(()));
     assert_eq!((core, memory), (Core { ip: 1, ef: 3, ..Core::new() }, [0, 0, 7, 0]));
 }
 
@@ -186,33 +186,33 @@ fn a_wrong_sheet_is_refused_and_writes_nothing() {
         (&[0x2000_1003, 0xF000_0000, 0x0000_0000], 26),
     ];
     for (sheet, number) in cases {
-        let (mut core, mut memory) = (BUSY, [0xBEEF; 4]);
-        assert_eq!(core.load_sheet(sheet, &mut memory), Err(Refusal(number)), "{sheet:08x?}");
-        assert_eq!((core, memory), (Core::new(), [0xBEEF; 4]));
+        let (mut core, mut edition, mut memory) = (BUSY, 7, [0xBEEF; 4]);
+        assert_eq!(core.load_sheet(&mut edition, sheet, &mut memory), Err(Refusal(number)), "{sheet:08x?}");
+        assert_eq!((core, edition, memory), (Core::new(), 1, [0xBEEF; 4]));
     }
-    let mut core = BUSY;
-    assert_eq!(core.load_sheet(&EXAMPLE_SHEET, &mut []), Err(Refusal(1)));
+    let (mut core, mut edition) = (BUSY, 7);
+    assert_eq!(core.load_sheet(&mut edition, &EXAMPLE_SHEET, &mut []), Err(Refusal(1)));
 }
 
 #[test]
 fn a_written_sheet_restores_core_and_memory() {
     let memory = [0, 7, 8, 0, 0, 9];
     let mut sheet = [0xDEAD_BEEF; 20];
-    let count = BUSY.write_sheet(&memory, &mut sheet).unwrap();
+    let count = BUSY.write_sheet(1, &memory, &mut sheet).unwrap();
     assert_eq!(count, 18);
     assert_eq!(sheet[0], 0x3000_0001);
     assert_eq!(sheet[12..18], [0x1000_0001, 0x2000_0007, 0x2000_0008, 0x1000_0005, 0x2000_0009, 0xF000_0003]);
     assert_eq!(sheet[18..], [0xDEAD_BEEF; 2]);
 
-    let (mut core, mut restored) = (Core::new(), [0xBEEF; 6]);
-    assert_eq!(core.load_sheet(&sheet[..count], &mut restored), Ok(()));
-    assert_eq!((core, restored), (BUSY, memory));
+    let (mut core, mut edition, mut restored) = (Core::new(), 7, [0xBEEF; 6]);
+    assert_eq!(core.load_sheet(&mut edition, &sheet[..count], &mut restored), Ok(()));
+    assert_eq!((core, edition, restored), (BUSY, 1, memory));
 }
 
 #[test]
 fn a_short_buffer_stays_as_it_was() {
     let mut sheet = [0xDEAD_BEEF; 17];
-    assert_eq!(BUSY.write_sheet(&[0, 7, 8, 0, 0, 9], &mut sheet), Err(Refusal(4)));
+    assert_eq!(BUSY.write_sheet(1, &[0, 7, 8, 0, 0, 9], &mut sheet), Err(Refusal(4)));
     assert_eq!(sheet, [0xDEAD_BEEF; 17]);
-    assert_eq!(BUSY.write_sheet(&[], &mut sheet), Err(Refusal(1)));
+    assert_eq!(BUSY.write_sheet(1, &[], &mut sheet), Err(Refusal(1)));
 }

@@ -43,16 +43,16 @@ impl Left {
 fn run(start: Core, words: &[u16], rights: &[u8], limit: u32) -> Left {
     let lent = || (start, words.to_vec(), vec![0xA4; words.len()]);
     let (mut core, mut memory, mut marks) = lent();
-    let run = core.run_guarded(&mut memory, &mut marks, rights, limit);
+    let run = core.run_guarded(&mut memory, &mut marks, rights, 1, limit);
     let left = Left { run, core, memory, marks };
 
     let ((mut core, mut memory, mut marks), mut log) = (lent(), [UNUSED; ROOM]);
-    let LoggedRun { end, steps, logged } = core.run_logged_guarded(&mut memory, &mut marks, rights, limit, &mut log);
+    let LoggedRun { end, steps, logged } = core.run_logged_guarded(&mut memory, &mut marks, rights, 1, limit, &mut log);
     assert_eq!(Left { run: Run { end, steps }, core, memory, marks }, left);
     assert!(log[logged..].iter().all(|word| *word == UNUSED));
 
     let mut seen = start;
-    assert_eq!(seen.replay_guarded(words.len(), rights, limit, &log[..logged]), left.run);
+    assert_eq!(seen.replay_guarded(words.len(), rights, 1, limit, &log[..logged]), left.run);
     assert_eq!(seen, left.core);
     left
 }
@@ -60,7 +60,7 @@ fn run(start: Core, words: &[u16], rights: &[u8], limit: u32) -> Left {
 /// The words of a logged run.
 fn log_of(mut core: Core, words: &[u16], rights: &[u8], limit: u32) -> Vec<u32> {
     let (mut memory, mut marks, mut log) = (words.to_vec(), vec![0; words.len()], vec![UNUSED; ROOM]);
-    let run = core.run_logged_guarded(&mut memory, &mut marks, rights, limit, &mut log);
+    let run = core.run_logged_guarded(&mut memory, &mut marks, rights, 1, limit, &mut log);
     log.truncate(run.logged);
     log
 }
@@ -163,7 +163,7 @@ fn with_every_right_it_is_the_run_without_rights() {
     let start = Core { sp: 0x0180, ..Core::new() };
     for limit in 0..9 {
         let (mut core, mut memory, mut marks) = (start, words.clone(), vec![0; words.len()]);
-        let plain = core.run(&mut memory, &mut marks, limit);
+        let plain = core.run(&mut memory, &mut marks, 1, limit);
         assert_eq!(run(start, &words, &ALL, limit), Left { run: plain, core, memory, marks });
     }
     assert_eq!(run(start, &words, &ALL, 9).core.r[..4], [0x0100, 9, 9, 9]);
@@ -183,7 +183,7 @@ fn a_refused_access_is_not_logged() {
 fn the_room_for_a_log_is_tested_before_the_rights() {
     for (room, end) in [(3, Outcome::Log(30)), (4, fault(33, 0))] {
         let (mut core, mut memory, mut marks, mut log) = (Core::new(), [0; 9], [0; 9], vec![UNUSED; room]);
-        let run = core.run_logged_guarded(&mut memory, &mut marks, &[0; PAGES], 9, &mut log);
+        let run = core.run_logged_guarded(&mut memory, &mut marks, &[0; PAGES], 1, 9, &mut log);
         assert_eq!(run, LoggedRun { end, steps: 0, logged: 0 });
         assert_eq!((core, marks, log), (Core::new(), [0; 9], vec![UNUSED; room]));
     }
@@ -196,7 +196,7 @@ fn a_replay_takes_the_rights_of_its_run() {
     let (kept, open) = (rights(1, 0, EXECUTE), rights(1, READ, EXECUTE));
     let replay = |rights: &[u8], log: &[u32]| {
         let mut core = start;
-        (core.replay_guarded(0x0200, rights, 9, log), core)
+        (core.replay_guarded(0x0200, rights, 1, 9, log), core)
     };
     let mismatch = (Run { end: Outcome::Log(31), steps: 0 }, start);
     let log = log_of(start, &words, &kept, 9);
@@ -206,7 +206,7 @@ fn a_replay_takes_the_rights_of_its_run() {
     assert_eq!(replay(&open, &log).0, Run { end: Outcome::Halted, steps: 2 });
     assert_eq!(replay(&kept, &log), mismatch);
     let mut plain = start;
-    assert_eq!(plain.replay(0x0200, 9, &log), replay(&open, &log).0);
+    assert_eq!(plain.replay(0x0200, 1, 9, &log), replay(&open, &log).0);
 }
 
 /// Every call with these rights, which must be refused with `number` and change nothing. The replay has no marks to be refused.
@@ -215,11 +215,11 @@ fn assert_refused(memory_len: usize, marks_len: usize, rights: &[u8], number: u8
         let refused = Run { end: Outcome::Refused(Refusal(number)), steps: 0 };
         let (mut core, mut memory, mut marks) = (start, vec![0x1003; memory_len], vec![0xA4; marks_len]);
         let mut log = [UNUSED; 8];
-        assert_eq!(core.run_guarded(&mut memory, &mut marks, rights, limit), refused);
-        let logged = core.run_logged_guarded(&mut memory, &mut marks, rights, limit, &mut log);
+        assert_eq!(core.run_guarded(&mut memory, &mut marks, rights, 1, limit), refused);
+        let logged = core.run_logged_guarded(&mut memory, &mut marks, rights, 1, limit, &mut log);
         assert_eq!(logged, LoggedRun { end: refused.end, steps: 0, logged: 0 });
         if number != 2 {
-            assert_eq!(core.replay_guarded(memory_len, rights, limit, &log), refused);
+            assert_eq!(core.replay_guarded(memory_len, rights, 1, limit, &log), refused);
         }
         assert_eq!((core, log), (start, [UNUSED; 8]));
         assert!(memory.iter().all(|&word| word == 0x1003) && marks.iter().all(|&mark| mark == 0xA4));

@@ -1,13 +1,12 @@
--- `replay_guarded`: host tests 1 and 32, and the turns.
-use Rattle.replay.proofs.Replays.{length_refused, guarded_refused, guarded_accepted}
+-- `replay_guarded`: the host tests, and the turns.
+use Rattle.std.specs.Prelude.{Some}
+use Rattle.replay.proofs.Replays.{replay_refused, replay_accepted}
 use Rattle.replay.proofs.replay_guarded.Goals as goal
 
-pub returns-in-Err : goal.returns-in-Err
-returns-in-Err c = rw c.no_run.ensures (length_refused _ _ _ _ _ c.in-Err.ensures)
-
 pub returns-in-Ok : goal.returns-in-Ok
-returns-in-Ok c = guarded_accepted _ _ _ _ _ c.in_default.ensures c.in-Ok.ensures c.tape_turns.ensures
+returns-in-Ok c =
+    rw (← c.in-Ok.ensures.rights)
+    (replay_accepted (Some _) _ _ _ _ _ (rw (← c.in-Ok.ensures.rights) at c.in-Ok.ensures.number) c.in-Ok.ensures.edition c.tape_turns.ensures)
 
-pub returns-in-Err-check_rights : goal.returns-in-Err-check_rights
-returns-in-Err-check_rights c =
-    rw c.no_run-in-Err-check_rights.ensures (guarded_refused _ _ _ _ _ c.in_default.ensures c.in-Err-check_rights.ensures)
+pub returns-in-Err : goal.returns-in-Err
+returns-in-Err c = rw c.no_run.ensures (replay_refused (Some c.args.rights.now) _ _ _ _ _ _ c.in-Err.ensures.number)

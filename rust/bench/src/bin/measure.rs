@@ -1,5 +1,6 @@
-//! usage: measure published|library|guarded|logged|logged-guarded|replay|replay-guarded
+//! usage: measure published|library|library-second|guarded|logged|logged-guarded|replay|replay-guarded
 //! Runs the programs of both tables, and prints for each the CPU nanoseconds per step and a digest of what the run left.
+//! All run in edition 1, the Rust's, but library-second: no program here does what differs in edition 2.
 //! Built twice: with and without overflow checks, which are those of the published Rust.
 
 use std::cell::Cell;
@@ -62,23 +63,26 @@ fn published(memory: Vec<u16>, limit: u32) -> Done {
     Done { time, run, core: registers, memory: core.memory.words, marks }
 }
 
-type Plain = fn(&mut Core, &mut [u16], &mut [u8], u32) -> Run;
-type Logged = fn(&mut Core, &mut [u16], &mut [u8], u32, &mut [u32]) -> LoggedRun;
-type Replay = fn(&mut Core, usize, u32, &[u32]) -> Run;
+type Plain = fn(&mut Core, &mut [u16], &mut [u8], u16, u32) -> Run;
+type Logged = fn(&mut Core, &mut [u16], &mut [u8], u16, u32, &mut [u32]) -> LoggedRun;
+type Replay = fn(&mut Core, usize, u16, u32, &[u32]) -> Run;
 
 /// Every right on every page.
 static RIGHTS: [u8; PAGES] = [7; PAGES];
 
-const GUARDED: Plain = |core, memory, marks, limit| core.run_guarded(memory, marks, black_box(&RIGHTS), limit);
-const LOGGED_GUARDED: Logged =
-    |core, memory, marks, limit, log| core.run_logged_guarded(memory, marks, black_box(&RIGHTS), limit, log);
-const REPLAY_GUARDED: Replay = |core, size, limit, log| core.replay_guarded(size, black_box(&RIGHTS), limit, log);
+const GUARDED: Plain =
+    |core, memory, marks, edition, limit| core.run_guarded(memory, marks, black_box(&RIGHTS), edition, limit);
+const LOGGED_GUARDED: Logged = |core, memory, marks, edition, limit, log| {
+    core.run_logged_guarded(memory, marks, black_box(&RIGHTS), edition, limit, log)
+};
+const REPLAY_GUARDED: Replay =
+    |core, size, edition, limit, log| core.replay_guarded(size, black_box(&RIGHTS), edition, limit, log);
 
-fn plain(run: Plain, mut memory: Vec<u16>, limit: u32) -> Done {
+fn plain(run: Plain, mut memory: Vec<u16>, edition: u16, limit: u32) -> Done {
     let mut marks = vec![0; memory.len()];
     let mut core = Core::new();
     let start = cpu_time();
-    let run = run(&mut core, &mut memory, &mut marks, black_box(limit));
+    let run = run(&mut core, &mut memory, &mut marks, black_box(edition), black_box(limit));
     let time = cpu_time() - start;
     Done { time, run, core, memory, marks }
 }
@@ -90,7 +94,8 @@ fn logged(run: Logged, mut memory: Vec<u16>, limit: u32) -> (Done, Vec<u32>) {
     let mut log = vec![u32::MAX; 4 * limit as usize];
     let mut core = Core::new();
     let start = cpu_time();
-    let LoggedRun { end, steps, logged } = run(&mut core, &mut memory, &mut marks, black_box(limit), &mut log);
+    let LoggedRun { end, steps, logged } =
+        run(&mut core, &mut memory, &mut marks, black_box(1), black_box(limit), &mut log);
     let time = cpu_time() - start;
     log.truncate(logged);
     (Done { time, run: Run { end, steps }, core, memory, marks }, log)
@@ -101,7 +106,7 @@ fn replay(replay: Replay, memory: Vec<u16>, limit: u32) -> Done {
     let (done, log) = logged(Core::run_logged, memory, limit);
     let mut core = Core::new();
     let start = cpu_time();
-    let run = replay(&mut core, done.memory.len(), black_box(limit), &log);
+    let run = replay(&mut core, done.memory.len(), black_box(1), black_box(limit), &log);
     let time = cpu_time() - start;
     Done { time, run, core, ..done }
 }
@@ -109,13 +114,16 @@ fn replay(replay: Replay, memory: Vec<u16>, limit: u32) -> Done {
 fn main() {
     let machine: fn(Vec<u16>, u32) -> Done = match std::env::args().nth(1).as_deref() {
         Some("published") => published,
-        Some("library") => |memory, limit| plain(Core::run, memory, limit),
-        Some("guarded") => |memory, limit| plain(GUARDED, memory, limit),
+        Some("library") => |memory, limit| plain(Core::run, memory, 1, limit),
+        Some("library-second") => |memory, limit| plain(Core::run, memory, 2, limit),
+        Some("guarded") => |memory, limit| plain(GUARDED, memory, 1, limit),
         Some("logged") => |memory, limit| logged(Core::run_logged, memory, limit).0,
         Some("logged-guarded") => |memory, limit| logged(LOGGED_GUARDED, memory, limit).0,
         Some("replay") => |memory, limit| replay(Core::replay, memory, limit),
         Some("replay-guarded") => |memory, limit| replay(REPLAY_GUARDED, memory, limit),
-        _ => panic!("usage: measure published|library|guarded|logged|logged-guarded|replay|replay-guarded"),
+        _ => panic!(
+            "usage: measure published|library|library-second|guarded|logged|logged-guarded|replay|replay-guarded"
+        ),
     };
     for program in tables().into_iter().flatten() {
         let done = machine(full_memory(&program.words), program.limit);

@@ -1,4 +1,4 @@
-//! Writes a fixed sample of the published Rust's answers to the file named, to be replayed without Rust.
+//! Writes a fixed sample of the published Rust's answers, which are edition 1's, to the file named, to be replayed without Rust.
 //!
 //! The file is a list of cases of 222 bytes and nothing else: 111 words of 16 bits, the low byte first.
 //!

@@ -1,6 +1,7 @@
 //! Machines that are wrong about rights over memory pages.
 
 use super::*;
+use crate::model::Rights;
 use nilguseg::{right, PAGES};
 
 const fn access(name: &'static str, access: model::Access) -> WrongMachine {
@@ -26,12 +27,12 @@ fn unless(but: u8, at: u16, need: u8, length: usize, rights: Rights) -> Result<(
     model::access(at, need, length, if but & need > 0 { None } else { rights })
 }
 
-/// A run whose rights are no rights, once they are tested.
-fn without(rights: Rights) -> Rights {
-    if model::rights_test(rights).is_ok() {
-        None
+/// Terms whose rights are no rights, once they are tested.
+fn without(terms: Terms) -> Terms {
+    if model::rights_test(terms.rights).is_ok() {
+        Terms { rights: None, ..terms }
     } else {
-        rights
+        terms
     }
 }
 
@@ -170,8 +171,8 @@ pub const RIGHTS: [WrongMachine; 46] = [
     }),
     other(
         "a refused access is counted as a step",
-        Mistake::Run(|core, memory, marks, rights, limit| {
-            let run = model::run(core, memory, marks, rights, limit);
+        Mistake::Run(|core, memory, marks, terms, limit| {
+            let run = model::run(core, memory, marks, terms, limit);
             match run.end {
                 Outcome::Fault(Fault { number: 33, .. }) => Run { steps: run.steps + 1, ..run },
                 _ => run,
@@ -180,9 +181,9 @@ pub const RIGHTS: [WrongMachine; 46] = [
     ),
     other(
         "32 is tested before 2",
-        Mistake::Run(|core, memory, marks, rights, limit| {
-            let run = model::run(core, memory, marks, rights, limit);
-            match (run.end, model::rights_test(rights)) {
+        Mistake::Run(|core, memory, marks, terms, limit| {
+            let run = model::run(core, memory, marks, terms, limit);
+            match (run.end, model::rights_test(terms.rights)) {
                 (Outcome::Refused(Refusal(2)), Err(refusal)) => Run { end: Outcome::Refused(refusal), ..run },
                 _ => run,
             }
@@ -190,15 +191,15 @@ pub const RIGHTS: [WrongMachine; 46] = [
     ),
     other(
         "the rights of a halted core are not tested",
-        Mistake::Run(|core, memory, marks, rights, limit| {
-            let rights = if core.is_halted() { None } else { rights };
-            model::run(core, memory, marks, rights, limit)
+        Mistake::Run(|core, memory, marks, terms, limit| {
+            let rights = if core.is_halted() { None } else { terms.rights };
+            model::run(core, memory, marks, Terms { rights, ..terms }, limit)
         }),
     ),
     other(
         "a run refused by 32 clears the marks",
-        Mistake::Run(|core, memory, marks, rights, limit| {
-            let run = model::run(core, memory, marks, rights, limit);
+        Mistake::Run(|core, memory, marks, terms, limit| {
+            let run = model::run(core, memory, marks, terms, limit);
             if run.end == Outcome::Refused(Refusal(32)) {
                 marks.fill(0);
             }
@@ -229,35 +230,35 @@ pub const RIGHTS: [WrongMachine; 46] = [
     }),
     other(
         "a logged run does not look at its rights",
-        Mistake::RunLogged(|core, memory, marks, rights, limit, log| {
-            model::run_logged(core, memory, marks, without(rights), limit, log)
+        Mistake::RunLogged(|core, memory, marks, terms, limit, log| {
+            model::run_logged(core, memory, marks, without(terms), limit, log)
         }),
     ),
     other(
         "a right is tested before the room",
-        Mistake::RunLogged(|core, memory, marks, rights, limit, log| {
-            let run = model::run_logged(core, memory, marks, rights, limit, log);
+        Mistake::RunLogged(|core, memory, marks, terms, limit, log| {
+            let run = model::run_logged(core, memory, marks, terms, limit, log);
             if run.end != Outcome::Log(30) {
                 return run;
             }
             let (mut after, mut words, mut left) = (*core, memory.to_vec(), marks.to_vec());
-            match model::step_of_run(&mut after, &mut words, &mut left, Guard::of(rights), None) {
+            match model::step_of_run(&mut after, &mut words, &mut left, Guard::of(terms), None) {
                 fault @ Outcome::Fault(Fault { number: 33, .. }) => LoggedRun { end: fault, ..run },
                 _ => run,
             }
         }),
     ),
-    replay("a replay tests its rights before its size", |core, size, rights, limit, log| {
-        match model::rights_test(rights) {
+    replay("a replay tests its rights before its size", |core, size, terms, limit, log| {
+        match model::rights_test(terms.rights) {
             Err(refusal) => Run { end: Outcome::Refused(refusal), steps: 0 },
-            Ok(()) => model::replay(core, size, rights, limit, log),
+            Ok(()) => model::replay(core, size, terms, limit, log),
         }
     }),
-    replay("a replay does not look at its rights", |core, size, rights, limit, log| {
-        model::replay(core, size, without(rights), limit, log)
+    replay("a replay does not look at its rights", |core, size, terms, limit, log| {
+        model::replay(core, size, without(terms), limit, log)
     }),
-    replay("a replay does not test writes", |core, size, rights, limit, log| {
+    replay("a replay does not test writes", |core, size, terms, limit, log| {
         let access = |at, need, length, rights: Rights| unless(right::WRITE, at, need, length, rights);
-        model::replay_by(model::found, Guard { rights, access }, core, size, limit, log)
+        model::replay_by(model::found, Guard { terms, access }, core, size, limit, log)
     }),
 ];

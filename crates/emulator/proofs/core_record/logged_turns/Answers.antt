@@ -9,4 +9,4 @@ pub returns : goal.returns
 returns c =
     let n = c.turns-run.ensures.noted in
     relogged (ran _ _ _) _ (search (rules, sym n.0)) (search (rules, sym n.1)) (search (rules, sym n.2))
-    (turns_logged _ _ _ _ _ c.turns-run.ensures.run n.3)
+    (turns_logged _ _ _ _ _ _ c.turns-run.ensures.run n.3)

@@ -4,4 +4,4 @@ use Rattle.sheet.proofs.SheetLaws.{Applying}
 use Rattle.sheet.proofs.load.apply_sheet.Given as goal
 
 abbrev pub invariant-loop-w : goal.invariant-loop-w
-invariant-loop-w l = Applying l.sheet (length l.fn.memory) (drop l.w-index l.sheet) l.address l.core l.memory
+invariant-loop-w l = Applying l.sheet (length l.fn.memory) (drop l.w-index l.sheet) l.address l.core l.edition l.memory

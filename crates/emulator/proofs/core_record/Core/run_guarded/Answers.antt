@@ -4,9 +4,9 @@ use Rattle.emulator.proofs.Whole.{run_refused, run_accepted}
 use Rattle.emulator.proofs.core_record.Core.run_guarded.Goals as goal
 
 pub returns-in-Err : goal.returns-in-Err
-returns-in-Err c = rw c.no_run.ensures (run_refused (Some c.args.rights.now) _ _ _ _ _ c.in-Err.ensures.number)
+returns-in-Err c = rw c.no_run.ensures (run_refused (Some c.args.rights.now) _ _ _ _ _ _ c.in-Err.ensures.number)
 
 pub returns : goal.returns
 returns c =
-    run_accepted (Some c.args.rights.now) _ _ _ _ c.in-Ok.ensures.number (c.fill.ensures.after (λ y e. e))
-    (rw c.in-Ok.ensures.bytes at c.marked_turns.ensures)
+    rw (← c.in-Ok.ensures.rights)
+    (run_accepted (Some _) _ _ _ _ _ (rw (← c.in-Ok.ensures.rights) at c.in-Ok.ensures.number) c.in-Ok.ensures.edition (c.fill.ensures.after (λ y e. e)) c.marked_turns.ensures)

@@ -1,7 +1,7 @@
--- `check`: a law for each answer.
+-- `check_lengths`: a law for each answer.
 use Rattle.std.proofs.lemmas.Result.{err_from_is_err_and}
 use Rattle.emulator.proofs.Laws.{test_length, test_marks, test_none}
-use Rattle.emulator.proofs.core_record.check.Goals as goal
+use Rattle.emulator.proofs.check.check_lengths.Goals as goal
 
 pub returns-in_err-check_length : goal.returns-in_err-check_length
 returns-in_err-check_length c =
