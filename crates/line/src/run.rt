@@ -22,8 +22,9 @@ fn push_state(line: &mut Line, run: Run)
     line.push(b'\n');
 }
 
-// `refused` and the number.
+// `refused` and the number. (Cold, or it would be inlined at each of several refusals: docs/PERFORMANCE.md.)
 #[tactic(auto, using(crate::proofs::LineLaws::field_laws), unfolding(crate::specs::Line::row, crate::specs::Line::fields))]
+#[cold]
 fn refused_line(refusal: SheetRefusal) -> Line
     ensures { result.items ≡ refused_line (sheet_refusal_number refusal) }
 {

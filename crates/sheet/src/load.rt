@@ -126,8 +126,10 @@ fn apply_sheet(sheet: &[u32], memory: &mut [u16]) -> (Core, u16)
     (core, edition)
 }
 
-// Loads a rule sheet. A refused one changes nothing: only the second pass writes.
+// Loads a rule sheet. A refused one changes nothing: only the second pass writes. (It isn't inlined, so that in `berth` the run's loop stands well:
+// docs/PERFORMANCE.md.)
 #[tactic(auto, unfolding(crate::specs::Load::load_sheet_of))]
+#[inline(never)]
 pub fn load_sheet(sheet: &[u32], memory: &mut [u16]) -> Load
     ensures { left result.answer result.core result.edition memory.new ≡ load_sheet_of sheet.now memory.old }
 {
