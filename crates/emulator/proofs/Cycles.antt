@@ -31,8 +31,8 @@ module _ {S : Type 0} (on : Store S) (ed : Edition) (c : Core) {m m₁ : S} {r :
   abbrev obeyed : Effect → Logged (Turn S)
   obeyed e = carry_out on (planned (after_of (advanced c) e) (access_of e)) m₁
 
-  pub cycle_obeyed : {w : ℕ} {i : Instruction} {e : Effect} → r ≡ Ok w → Ok i ≡ decode_of w
-      → e ≡ execute_of ed (registers c.gprs (advanced c).ip c.rp c.sp c.ef) i w
+  pub cycle_obeyed : {w ip : ℕ} {i : Instruction} {e : Effect} → r ≡ Ok w → Ok i ≡ decode_of w → ip ≡ (advanced c).ip
+      → e ≡ execute_of ed (registers c.gprs ip c.rp c.sp c.ef) i w
       → logged (obeyed e).result (read_log Purpose.Fetch c.ip r ++ (obeyed e).log) ≡ cycle_of on (plan_of ed) c m
   unfolding cycle_of plan_of
-  cycle_obeyed e d h = rw (← q, e, ← d, h)
+  cycle_obeyed e d p h = rw (← q, e, ← d, h, p)

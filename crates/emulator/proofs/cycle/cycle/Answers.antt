@@ -25,13 +25,13 @@ returns-in_err-ins-clause-noted g c start l h =
 
 pub returns-clause-turn : goal.returns-clause-turn
 returns-clause-turn g c =
-    rw (← (cycle_obeyed (g.S.Store.store (bytes_of c.args.rights)) c.args.edition c.args.core.now c.read.ensures.read c.in_ok-word.was c.in_ok-ins.ensures (rw c.add-core.ensures at c.execute-effect.ensures)))
+    rw (← (cycle_obeyed (g.S.Store.store (bytes_of c.args.rights)) c.args.edition c.args.core.now c.read.ensures.read c.in_ok-word.was c.in_ok-ins.ensures c.add-core.ensures c.execute-effect.ensures))
     (rw c.add-core.ensures at c.obey.ensures.turn)
 
 pub returns-clause-noted : goal.returns-clause-noted
 returns-clause-noted g c start l h =
     rw (
-      ← (cycle_obeyed (g.S.Store.store (bytes_of c.args.rights)) c.args.edition c.args.core.now c.read.ensures.read c.in_ok-word.was c.in_ok-ins.ensures (rw c.add-core.ensures at c.execute-effect.ensures)),
+      ← (cycle_obeyed (g.S.Store.store (bytes_of c.args.rights)) c.args.edition c.args.core.now c.read.ensures.read c.in_ok-word.was c.in_ok-ins.ensures c.add-core.ensures c.execute-effect.ensures),
       ← append_assoc,
     )
     (c.obey.ensures.noted start _ (c.read.ensures.noted start l h))
