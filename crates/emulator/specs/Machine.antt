@@ -1,5 +1,5 @@
--- One step and the run (document 01), with its log, its rights and its edition (document 02, CR 2, CR 3 and CR 5). What an instruction does, what an access does and
--- what a run does stand apart: an access and a run see an instruction only through its plan.
+-- One step and the run (document 01), with its log, its rights and its edition (document 02, CR 2, CR 3 and CR 5). What an instruction does, what
+-- an access does and what a run does stand apart: an access and a run see an instruction only through its plan.
 use Rattle.std.specs.Prelude.{ℕ, zero, suc, ◌+◌, Bool, true, false, List, [], ◌++◌, length, replicate, ◌==◌, nat_eq, if◌then◌else◌, Option, Some, None, Result, Ok, Err}
 use Rattle.instructions.specs.Decoding.{decode_of}
 use Rattle.instructions.specs.declared.ins.Instruction.{Instruction}

@@ -15,7 +15,7 @@ edition_of n = if n == 1 then First else Second
 abbrev pub edition_at : ℕ → Option Edition
 edition_at n = if refused_edition n then None else Some (edition_of n)
 
--- of what the editions have apart: what the first one does, and the second
+-- where the editions differ: what the first one does, or the second
 abbrev pub in_edition : {A : Type 0} → Edition → A → A → A
 in_edition First x y = x
 in_edition Second x y = y

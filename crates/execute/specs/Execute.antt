@@ -25,7 +25,7 @@ to_spr EF v = Ef v
 abbrev pub to_cond : Registers → Bool → Effect
 to_cond r b = Ef (with_cond r.ef b)
 
--- the effect, for an amount below 16; for any other stop 13 in edition 1, and the effect past in edition 2
+-- the effect e, for an amount below 16; for any other stop 13 in edition 1, and the effect `past` in edition 2
 abbrev pub amount_below16 : Edition → ℕ → Effect → Effect → Effect
 amount_below16 ed amount e past = if nat_lt amount 16 then e else in_edition ed (Amount amount) past
 

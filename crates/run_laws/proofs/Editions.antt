@@ -29,7 +29,7 @@ use Rattle.memory.specs.declared.refusal.LogEnd.{LogEnd}
 use Rattle.memory.specs.declared.refusal.LogEnd.TheVariants.{Full}
 use Rattle.memory.specs.declared.rights.Right.{Right}
 use Rattle.memory.specs.declared.stop.Stop.{Stop}
-use Rattle.run_laws.specs.Editions.{Unstopped, Editions}
+use Rattle.run_laws.specs.Editions.{WithoutOverflow, Editions}
 
 -- Whether an outcome is stop 13 or 14.
 overflows : Outcome → Bool
@@ -40,9 +40,9 @@ overflows (fault n v) = if eqb n 13 then true else eqb n 14
 overflows (refused n) = false
 overflows (ended n) = false
 
-unstopped_is : {r : Logged (Ran Memory)} → Unstopped r → overflows r.result.end ≡ false
+not_overflowed : {r : Logged (Ran Memory)} → WithoutOverflow r → overflows r.result.end ≡ false
 unfolding overflows
-unstopped_is {r} u = by_outcome r.result.end u.amount u.negation
+not_overflowed {r} u = by_outcome r.result.end u.amount u.negation
   where
     by_outcome : (o : Outcome) → ((a : ℕ) → o ≡ fault 13 a → ⊥) → ((v : ℕ) → o ≡ fault 14 v → ⊥) → overflows o ≡ false
     by_outcome (fault n v) f g =
@@ -50,9 +50,9 @@ unstopped_is {r} u = by_outcome r.result.end u.amount u.negation
         (λ e. rw e (by_test (eqb n 14) (λ t. absurd (g v (ap (λ (k : ℕ). fault k v) (eqb-true _ _ t)))) (λ z. z)))
     by_outcome o f g = refl
 
-is_unstopped : {r : Logged (Ran Memory)} → overflows r.result.end ≡ false → Unstopped r
+without_overflow : {r : Logged (Ran Memory)} → overflows r.result.end ≡ false → WithoutOverflow r
 unfolding overflows
-is_unstopped e = record { amount = λ a q. true≢false (rw q at e); negation = λ v q. true≢false (rw q at e) }
+without_overflow e = record { amount = λ a q. true≢false (rw q at e); negation = λ v q. true≢false (rw q at e) }
 
 -- An effect that both editions may have, or one whose access comes to stop 13 or 14, whatever is replied.
 data Kind (e : Effect) : Type 0 where
@@ -239,6 +239,6 @@ never_stops room rights c m most =
 pub run_editions : Editions
 run_editions =
     record {
-      same = λ room rights c m most u. same_run room rights c m most (unstopped_is u);
-      never = λ room rights c m most. is_unstopped (never_stops room rights c m most);
+      same = λ room rights c m most u. same_run room rights c m most (not_overflowed u);
+      never = λ room rights c m most. without_overflow (never_stops room rights c m most);
     }

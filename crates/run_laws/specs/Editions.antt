@@ -7,7 +7,7 @@ use Rattle.emulator.specs.Machine.{plan_of, Ran, setting, run_in}
 use Rattle.emulator.specs.declared.core_record.Core.{Core}
 
 -- a run that ends neither by 13 nor by 14
-pub record Unstopped (r : Logged (Ran Memory)) : Type 0 where
+pub record WithoutOverflow (r : Logged (Ran Memory)) : Type 0 where
   pub amount : (a : ℕ) → r.result.end ≡ fault 13 a → ⊥
   pub negation : (v : ℕ) → r.result.end ≡ fault 14 v → ⊥
 
@@ -15,8 +15,8 @@ pub record Unstopped (r : Logged (Ran Memory)) : Type 0 where
 pub record Editions : Type 0 where
   -- a run in edition 1 that ends neither by 13 nor by 14 is the run in edition 2, in everything
   pub same : (room : Room) (rights : Option (List ℕ)) (c : Core) (m : Memory) (limit : ℕ)
-      → Unstopped (run_in plan_of (setting room rights 1) c m limit)
+      → WithoutOverflow (run_in plan_of (setting room rights 1) c m limit)
       → run_in plan_of (setting room rights 2) c m limit ≡ run_in plan_of (setting room rights 1) c m limit
   -- no run in edition 2 ends by 13 or 14
   pub never : (room : Room) (rights : Option (List ℕ)) (c : Core) (m : Memory) (limit : ℕ)
-      → Unstopped (run_in plan_of (setting room rights 2) c m limit)
+      → WithoutOverflow (run_in plan_of (setting room rights 2) c m limit)
