@@ -3,4 +3,3 @@ pub mod Record
 pub mod Load
 pub mod Write
 pub mod Input
-pub mod RoundTrip

@@ -13,9 +13,9 @@ use Rattle.emulator.specs.Core.{new_core}
 use Rattle.memory.proofs.Laws.{length_accepted}
 use Rattle.sheet.specs.Load.{Reading, read_from, sheet_reads, load_sheet_of}
 use Rattle.sheet.specs.Write.{end_record, stretches_from, words_in, sheet_of}
-use Rattle.sheet.specs.RoundTrip.{Words, WholeCore, RoundTrip}
+use Rattle.sheet_laws.specs.RoundTrip.{Words, WholeCore, RoundTrip}
 use Rattle.sheet.proofs.WriteLaws.{body, sheet_parts}
-use Rattle.sheet.proofs.ReadBack.{read_edition, read_presets, read_stretches}
+use Rattle.sheet_laws.proofs.ReadBack.{read_edition, read_presets, read_stretches}
 
 -- the writer's sheet is accepted: it gives the core, the edition and the memory that it was made of
 accepted : (c : Core) (ed : ℕ) (mem : List ℕ) → WholeCore c → refused_edition ed ≡ false → Words mem → length mem ≤ 65536

@@ -20,7 +20,7 @@ use Rattle.sheet.specs.declared.fields.Record.TheVariants.{Place, Word, Preset, 
 use Rattle.sheet.specs.Record.{kind, above16, above20, register, low, count, record_of, register_of, with_register}
 use Rattle.sheet.specs.Load.{Reading, read_from}
 use Rattle.sheet.specs.Write.{place_record, word_record, preset_record, edition_record, end_record, edition_records, presets_from, records_at, stretches_from, words_in}
-use Rattle.sheet.specs.RoundTrip.{Words, WholeCore}
+use Rattle.sheet_laws.specs.RoundTrip.{Words, WholeCore}
 use Rattle.memory.proofs.Stores.{four}
 use Rattle.sheet.proofs.WriteLaws.{at_zero, at_first, at_within, no_edition, one_edition}
 

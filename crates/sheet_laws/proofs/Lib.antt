@@ -1,0 +1,2 @@
+pub mod ReadBack
+pub mod RoundTrip

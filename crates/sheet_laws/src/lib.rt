@@ -1,0 +1,2 @@
+// Theorems about the definitions of `sheet`, with no code of their own (specs/ states them, proofs/ proves them): what is written loads back.
+#![tactic(auto)]
