@@ -190,7 +190,8 @@ uint32_t nilguseg_load_words(nilguseg_core *core, uint16_t *edition, const uint1
                              uint16_t *memory, size_t memory_len);
 
 /* Loads a rule sheet: from a fresh core, zero memory and edition 1, sets what its records say, *edition with them. A record of
- * kind 7 has the edition in bits 15..0; the last one counts. The answer is 0.
+ * kind 7 has the edition in bits 15..0; the last one counts. The end record has in bits 27..0 the number of all records before
+ * it, of every kind: places, words, presets and editions. The answer is 0.
  * Refused, with memory unchanged, the core fresh and *edition 1; the answer is the number:
  *   1   memory_len is not 1 to 65,536
  *   then the first of these, record by record:
@@ -201,7 +202,8 @@ uint32_t nilguseg_load_sheet(nilguseg_core *core, uint16_t *edition, const uint3
                              uint16_t *memory, size_t memory_len);
 
 /* Writes the sheet that restores this core, edition and memory when loaded into memory of the same length. Its first record is
- * the edition where that is 2; for edition 1 there is none.
+ * the edition where that is 2; for edition 1 there is none. Its end counts all before it: that record, 12 presets, the places
+ * and the words. Without any one of its records the sheet is refused.
  *   bits 31..0   the number of records, the end included; the buffer past them is unchanged
  *   bits 63..32  0, or the number of the refusal, tested in this order, with the buffer unchanged and 0 records:
  *     1   memory_len is not 1 to 65,536

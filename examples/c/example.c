@@ -1,6 +1,6 @@
-/* The worked example of document 01: putl r0 3, hlt; once from a word list, once from a rule sheet. Then its run logged and seen
- * again, a rule that may not read the fees, a sheet that chooses edition 2, and word lists compared. Ends with status 1 if
- * anything is not as the documents say. */
+/* The worked example of document 01: putl r0 3, hlt; once from a word list, once from a rule sheet. Then a sheet that chooses
+ * edition 2 and one that lost a record, the example's run logged and seen again, a rule that may not read the fees, and word
+ * lists compared. Ends with status 1 if anything is not as the documents say. */
 #include <stdbool.h>
 #include <stddef.h>
 #include <stdio.h>
@@ -116,27 +116,45 @@ static void from_sheet(void)
     expect(nilguseg_load_sheet(&core, &edition, sheet, 2, memory, 2) == 24, "without its end record it is refused with 24");
 }
 
-/* A rule that shifts 1 by 16: 1 in r0, 16 in r1, shl r0 r1, hlt. Its sheet is of edition 1, and of 2 with the first record. */
+/* A rule that shifts 1 by 16: 1 in r0, 16 in r1, shl r0 r1, hlt; in edition 1, and in 2 with the record that chooses it. Each
+ * end counts all records before it. */
+static const uint32_t first[5] = {0x30000001, 0x30010010, 0x20004410, 0x2000FFFF, 0xF0000004};
+static const uint32_t second[6] = {0x70000002, 0x30000001, 0x30010010, 0x20004410, 0x2000FFFF, 0xF0000005};
+
 static void from_sheet_with_edition(void)
 {
-    static const uint32_t sheet[6] = {0x70000002, 0x30000001, 0x30010010, 0x20004410, 0x2000FFFF, 0xF0000002};
     nilguseg_core core;
     uint16_t edition, memory[2];
     uint8_t marks[2];
     uint32_t written[17];
 
     puts("-- a sheet that chooses its edition");
-    expect(nilguseg_load_sheet(&core, &edition, sheet + 1, 5, memory, 2) == 0 && edition == 1, "without the record: 1");
+    expect(nilguseg_load_sheet(&core, &edition, first, 5, memory, 2) == 0 && edition == 1, "without the record: 1");
     expect(nilguseg_run(&core, memory, 2, marks, 2, edition, 9) == 0x030D001000000000, "the shift stops: 3, 13, 16");
 
-    expect(nilguseg_load_sheet(&core, &edition, sheet, 6, memory, 2) == 0 && edition == 2, "with it: 2");
-    expect(nilguseg_write_sheet(&core, edition, memory, 2, written, 17) == 17 && written[0] == sheet[0],
+    expect(nilguseg_load_sheet(&core, &edition, second, 6, memory, 2) == 0 && edition == 2, "with it: 2");
+    expect(nilguseg_write_sheet(&core, edition, memory, 2, written, 17) == 17 && written[0] == second[0],
            "the writer puts it first");
+    expect(written[16] == 0xF0000010, "and counts it with 12 presets, a place and 2 words");
     expect(nilguseg_run(&core, memory, 2, marks, 2, edition, 9) == ((uint64_t)NILGUSEG_HALTED << 56 | 2), "the rule halts");
     expect(core.r[0] == 0, "and the shift gave 0");
 
-    expect(nilguseg_load_sheet(&core, &edition, sheet, 5, memory, 2) == 24 && edition == 1, "a refused sheet: 1");
+    expect(nilguseg_load_sheet(&core, &edition, second, 5, memory, 2) == 24 && edition == 1, "a refused sheet: 1");
     expect(nilguseg_write_sheet(&core, 3, memory, 2, written, 0) == (uint64_t)34 << 32, "a sheet of edition 3 is not written");
+}
+
+/* The same sheets without one of their records. */
+static void from_sheet_that_lost_a_record(void)
+{
+    static const uint32_t no_preset[4] = {0x30000001, 0x20004410, 0x2000FFFF, 0xF0000004};
+    nilguseg_core core = {.r = {9}}, fresh = {.sp = 0xFFFF};
+    uint16_t edition = 9, memory[2] = {7, 7};
+
+    puts("-- a sheet that lost a record");
+    expect(nilguseg_load_sheet(&core, &edition, no_preset, 4, memory, 2) == 26, "without the preset of r1: refused with 26");
+    expect(memory[0] == 7 && memory[1] == 7, "memory is unchanged");
+    expect(same_core(&core, &fresh) && edition == 1, "the core is fresh, and the edition 1");
+    expect(nilguseg_load_sheet(&core, &edition, second + 1, 5, memory, 2) == 26, "without the edition too: its end counts 5");
 }
 
 /* The example with a log, and seen again once its memory is lost. */
@@ -247,6 +265,7 @@ int main(void)
     from_words();
     from_sheet();
     from_sheet_with_edition();
+    from_sheet_that_lost_a_record();
     by_number();
     logged_and_replayed();
     guarded();

@@ -9,26 +9,26 @@ use std::io;
 // The ends of a run.
 const EXAMPLE: [u32; 3] = [0x20001003, 0x2000FFFF, 0xF0000002];
 // ef preset to halt: no step is made.
-const HALTED: [u32; 2] = [0x300B0001, 0xF0000000];
+const HALTED: [u32; 2] = [0x300B0001, 0xF0000001];
 // Every register preset to another value, and ef to halt.
 const PRESETS: [u32; 13] = [
     0x30000009, 0x3001000A, 0x30020063, 0x30030064, 0x300403E7, 0x300503E8, 0x3006270F, 0x30072710,
-    0x30080001, 0x30090002, 0x300A0003, 0x300B0005, 0xF0000000,
+    0x30080001, 0x30090002, 0x300A0003, 0x300B0005, 0xF000000C,
 ];
 // jmpoff -1: the longest run.
 const LIMIT: [u32; 2] = [0x200060FF, 0xF0000001];
 // A loop that counts r0 down from 1,000, then halts: dec r0, eqz r0, inv, cjmpoff -4, hlt.
 const COUNTED: [u32; 7] = [
-    0x300003E8, 0x20004820, 0x20005010, 0x20005000, 0x200061FC, 0x2000FFFF, 0xF0000005,
+    0x300003E8, 0x20004820, 0x20005010, 0x20005000, 0x200061FC, 0x2000FFFF, 0xF0000006,
 ];
 // A word, read by a later instruction, from a place of its own: read r1 from the address in r0.
 const PLACED: [u32; 7] = [
-    0x30000100, 0x20002001, 0x2000FFFF, 0x10000100, 0x2000BEEF, 0x10000000, 0xF0000003,
+    0x30000100, 0x20002001, 0x2000FFFF, 0x10000100, 0x2000BEEF, 0x10000000, 0xF0000006,
 ];
 // Every number of the line has five digits where it can.
 const LARGE: [u32; 13] = [
     0x3000FFFF, 0x3001FFFF, 0x3002FFFF, 0x3003FFFF, 0x3004FFFF, 0x3005FFFF, 0x3006FFFF, 0x3007FFFF,
-    0x3008FFFF, 0x3009FFFF, 0x300AFFFF, 0x300BFFFE, 0xF0000000,
+    0x3008FFFF, 0x3009FFFF, 0x300AFFFF, 0x300BFFFE, 0xF000000C,
 ];
 
 const UNDECODABLE: [u32; 3] = [0x20000000, 0x20004600, 0xF0000002];
@@ -37,20 +37,20 @@ const FETCH: [u32; 1] = [0xF0000000];
 // push r0 with a fresh sp.
 const PUSH: [u32; 2] = [0x200023D0, 0xF0000001];
 // read r0 from 0x8000.
-const READ: [u32; 3] = [0x30018000, 0x20002010, 0xF0000001];
+const READ: [u32; 3] = [0x30018000, 0x20002010, 0xF0000002];
 // dmov d0 from d1.
 const DECIMAL: [u32; 2] = [0x20002118, 0xF0000001];
 // shl r0 by r1.
-const SHIFT: [u32; 4] = [0x30000001, 0x30010010, 0x20004410, 0xF0000001];
+const SHIFT: [u32; 4] = [0x30000001, 0x30010010, 0x20004410, 0xF0000003];
 // bitset of bit 0xFFFF of r0.
-const BIT: [u32; 3] = [0x3001FFFF, 0x20004710, 0xF0000001];
+const BIT: [u32; 3] = [0x3001FFFF, 0x20004710, 0xF0000002];
 // neg r0.
-const NEGATION: [u32; 3] = [0x30008000, 0x20004800, 0xF0000001];
+const NEGATION: [u32; 3] = [0x30008000, 0x20004800, 0xF0000002];
 
 // shr r0 by r1, eqz r0, hlt, with 0xFFFF and 16: the edition decides, of two records the later.
-const RULE: [u32; 6] = [
-    0x3000FFFF, 0x30010010, 0x20004510, 0x20005010, 0x2000FFFF, 0xF0000003,
-];
+const RULE: [u32; 5] = [0x3000FFFF, 0x30010010, 0x20004510, 0x20005010, 0x2000FFFF];
+// The end of those, with no edition before them.
+const RULE_END: u32 = 0xF0000005;
 
 const FIRST: u32 = 0x70000001;
 
@@ -58,25 +58,27 @@ const SECOND: u32 = 0x70000002;
 
 // bitset of bit 16 of r0, then neg r1, with 0xFFFF and 0x8000, in edition 2.
 const REST: [u32; 8] = [
-    SECOND, 0x3000FFFF, 0x30018000, 0x30020010, 0x20004720, 0x20004801, 0x2000FFFF, 0xF0000003,
+    SECOND, 0x3000FFFF, 0x30018000, 0x30020010, 0x20004720, 0x20004801, 0x2000FFFF, 0xF0000007,
 ];
 // dmov d0 from d1 stops in edition 2 too.
-const DECIMAL_2: [u32; 3] = [SECOND, 0x20002118, 0xF0000001];
+const DECIMAL_2: [u32; 3] = [SECOND, 0x20002118, 0xF0000002];
 
 // The refusals of a sheet.
-const KIND: [u32; 2] = [0x40000000, 0xF0000000];
+const KIND: [u32; 2] = [0x40000000, 0xF0000001];
 
-const BITS: [u32; 2] = [0x20010000, 0xF0000000];
+const BITS: [u32; 2] = [0x20010000, 0xF0000001];
 
-const REGISTER: [u32; 2] = [0x300C0000, 0xF0000000];
+const REGISTER: [u32; 2] = [0x300C0000, 0xF0000001];
 
-const ADDRESS: [u32; 3] = [0x10008000, 0x20000001, 0xF0000001];
+const ADDRESS: [u32; 3] = [0x10008000, 0x20000001, 0xF0000002];
 
 const NO_END: [u32; 1] = [0x20000001];
 
 const AFTER_END: [u32; 2] = [0xF0000000, 0x00000000];
 
 const COUNT: [u32; 2] = [0x20000001, 0xF0000000];
+// SHIFT, of which the preset of r1 was lost: it would shift by 0.
+const LOST: [u32; 3] = [0x30000001, 0x20004410, 0xF0000003];
 // The count is tested before the records after the end.
 const COUNT_FIRST: [u32; 3] = [0x20000001, 0xF0000000, 0x00000000];
 
@@ -128,6 +130,7 @@ fn show_refusals(rt: &impl Print) -> io::Result<()> {
     show_sheet(rt, b"no end", &NO_END)?;
     show_sheet(rt, b"after the end", &AFTER_END)?;
     show_sheet(rt, b"count", &COUNT)?;
+    show_sheet(rt, b"lost preset", &LOST)?;
     show_sheet(rt, b"count first", &COUNT_FIRST)
 }
 
@@ -138,7 +141,8 @@ fn show_edition(rt: &impl Print, label: &[u8], editions: &[u32]) -> io::Result<(
     let mut sheet = [0; 8];
     let (front, rest) = sheet.split_at_mut(editions.len());
     front.copy_from_slice(editions);
-    rest[..6].copy_from_slice(&RULE);
+    rest[..5].copy_from_slice(&RULE);
+    rest[5] = RULE_END + editions.len() as u32;
     show_sheet(rt, label, &sheet[..editions.len() + 6])
 }
 
@@ -154,7 +158,7 @@ fn show_editions(rt: &impl Print) -> io::Result<()> {
     show_sheet(
         rt,
         b"edition after words",
-        &[0x20004510, 0x2000FFFF, 0x30010010, SECOND, 0xF0000002],
+        &[0x20004510, 0x2000FFFF, 0x30010010, SECOND, 0xF0000004],
     )?;
     show_edition(rt, b"edition 0", &[0x70000000])?;
     show_edition(rt, b"edition 3", &[0x70000003])?;
@@ -166,8 +170,12 @@ fn show_editions(rt: &impl Print) -> io::Result<()> {
     show_edition(rt, b"bit 16 of edition 3", &[0x70010003])?;
     show_edition(rt, b"register 12, edition 3", &[0x300C0000, 0x70000003])?;
     show_edition(rt, b"edition 3, register 12", &[0x70000003, 0x300C0000])?;
-    // the end counts words only
-    show_sheet(rt, b"edition counted", &[SECOND, 0x2000FFFF, 0xF0000002])
+    // the end counts it too
+    show_sheet(
+        rt,
+        b"edition not counted",
+        &[SECOND, 0x2000FFFF, 0xF0000001],
+    )
 }
 
 // Word records of nop.

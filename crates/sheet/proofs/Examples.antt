@@ -2,6 +2,7 @@
 use Prim.Native.Nat.{ℕ}
 use mathlib.Core.List.{List, [], ◌∷◌, map}
 use mathlib.Core.Path.{◌≡◌, refl}
+use lib.ListN.{drop}
 use Rattle.emulator.specs.Core.{new_core}
 use Rattle.execute.specs.Edition.{refused_edition}
 use Rattle.memory.specs.Memory.{refused_length}
@@ -28,10 +29,13 @@ pub refusals : map answer
     ∷ (0x300C0000 ∷ [])
     ∷ (0x10000002 ∷ 0x20000001 ∷ 0xF0000001 ∷ [])
     ∷ (0x20000001 ∷ 0xF0000000 ∷ [])
+    ∷ (0x30000001 ∷ 0xF0000000 ∷ [])
+    ∷ (0x10000001 ∷ 0x20000001 ∷ 0xF0000001 ∷ [])
+    ∷ (0x20000001 ∷ 0xF0000002 ∷ [])
     ∷ (0xF0000000 ∷ 0 ∷ [])
     ∷ []
     ∷ (0x30001234 ∷ [])
-    ∷ (0x10000001 ∷ 0x20000001 ∷ 0xF0000001 ∷ [])
+    ∷ (0x10000001 ∷ 0x20000001 ∷ 0x30001234 ∷ 0xF0000003 ∷ [])
     ∷ [])
     ≡ Err UnknownKind
     ∷ Err NonzeroBit
@@ -39,6 +43,9 @@ pub refusals : map answer
     ∷ Err NonzeroBit
     ∷ Err UnknownRegister
     ∷ Err PastMemory
+    ∷ Err WrongCount
+    ∷ Err WrongCount
+    ∷ Err WrongCount
     ∷ Err WrongCount
     ∷ Err AfterEnd
     ∷ Err NoEnd
@@ -48,7 +55,7 @@ pub refusals : map answer
 unfolding load_sheet_of refused_length read_from record_of with_register
 refusals = refl
 
--- kind 7: bits that must be 0, an edition neither 1 nor 2, the first of two bad records, and an edition that the end doesn't count
+-- kind 7: bits that must be 0, an edition neither 1 nor 2, the first of two bad records, and an edition that the end counts or doesn't
 pub edition_refusals : map answer
     ((0x70010002 ∷ [])
     ∷ (0x78000002 ∷ [])
@@ -58,8 +65,8 @@ pub edition_refusals : map answer
     ∷ (0x7000FFFF ∷ [])
     ∷ (0x300C0000 ∷ 0x70000000 ∷ [])
     ∷ (0x70000000 ∷ 0x300C0000 ∷ [])
-    ∷ (0x70000002 ∷ 0xF0000000 ∷ [])
     ∷ (0x70000002 ∷ 0xF0000001 ∷ [])
+    ∷ (0x70000002 ∷ 0xF0000000 ∷ [])
     ∷ [])
     ≡ Err NonzeroBit
     ∷ Err NonzeroBit
@@ -77,11 +84,11 @@ edition_refusals = refl
 
 -- the last record of an edition is its sheet's; 1 with none, and where the load is refused
 pub editions : map edition
-    ((0x70000001 ∷ 0xF0000000 ∷ [])
-    ∷ (0x70000002 ∷ 0xF0000000 ∷ [])
-    ∷ (0x70000001 ∷ 0x70000002 ∷ 0xF0000000 ∷ [])
-    ∷ (0x70000002 ∷ 0x70000001 ∷ 0xF0000000 ∷ [])
-    ∷ (0x20000001 ∷ 0x30000001 ∷ 0x70000002 ∷ 0xF0000001 ∷ [])
+    ((0x70000001 ∷ 0xF0000001 ∷ [])
+    ∷ (0x70000002 ∷ 0xF0000001 ∷ [])
+    ∷ (0x70000001 ∷ 0x70000002 ∷ 0xF0000002 ∷ [])
+    ∷ (0x70000002 ∷ 0x70000001 ∷ 0xF0000002 ∷ [])
+    ∷ (0x20000001 ∷ 0x30000001 ∷ 0x70000002 ∷ 0xF0000003 ∷ [])
     ∷ (0xF0000000 ∷ [])
     ∷ (0x70000002 ∷ [])
     ∷ [])
@@ -98,14 +105,15 @@ program = refl
 pub stretches : sheet_of new_core 1 (5 ∷ 0 ∷ 6 ∷ 7 ∷ [])
     ≡ 0x30000000 ∷ 0x30010000 ∷ 0x30020000 ∷ 0x30030000 ∷ 0x30040000 ∷ 0x30050000 ∷ 0x30060000 ∷ 0x30070000
     ∷ 0x30080000 ∷ 0x30090000 ∷ 0x300AFFFF ∷ 0x300B0000
-    ∷ 0x10000000 ∷ 0x20000005 ∷ 0x10000002 ∷ 0x20000006 ∷ 0x20000007 ∷ 0xF0000003 ∷ []
+    ∷ 0x10000000 ∷ 0x20000005 ∷ 0x10000002 ∷ 0x20000006 ∷ 0x20000007 ∷ 0xF0000011 ∷ []
 unfolding sheet_of edition_records presets_from stretches_from records_at register_of
 stretches = refl
 
--- the same memory in edition 2
-pub second : sheet_of new_core 2 (5 ∷ 0 ∷ 6 ∷ 7 ∷ []) ≡ 0x70000002 ∷ sheet_of new_core 1 (5 ∷ 0 ∷ 6 ∷ 7 ∷ [])
+-- a memory of zeros, in either edition
+pub empty : drop 12 (sheet_of new_core 1 (0 ∷ [])) ∷ drop 12 (sheet_of new_core 2 (0 ∷ [])) ∷ []
+    ≡ (0xF000000C ∷ []) ∷ (0x300B0000 ∷ 0xF000000D ∷ []) ∷ []
 unfolding sheet_of edition_records presets_from stretches_from records_at register_of
-second = refl
+empty = refl
 
 -- the writer's tests, with no room at all: memory's length, the edition, the buffer
 pub unwritten :

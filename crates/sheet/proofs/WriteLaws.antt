@@ -1,5 +1,5 @@
 -- Laws of writing a sheet, one for each way through the code, and the loops' invariants: what is left of the records makes the whole.
-use Rattle.std.specs.Prelude.{not, if◌then◌else◌}
+use Rattle.std.specs.Prelude.{if◌then◌else◌}
 use Prim.Native.Nat.{ℕ, suc, ◌+◌, ◌*◌, ◌-◌, ◌<◌, ◌≤◌}
 use mathlib.Core.Bool.{Bool, true, false}
 use mathlib.Core.List.{List, [], ◌∷◌, ◌++◌, append_assoc}
@@ -15,9 +15,8 @@ use Rattle.std.proofs.Common.{drop-drop}
 use Rattle.instructions.proofs.Cases.{by_test}
 use Rattle.instructions.specs.Bounded.{Bounded}
 use Rattle.emulator.specs.declared.core_record.Core.{Core}
-use Rattle.std.proofs.lemmas.List.Sums.{count_by-le-length}
 use Rattle.sheet.specs.Record.{register_of}
-use Rattle.sheet.specs.Write.{place_record, word_record, preset_record, edition_record, end_record, edition_records, presets_from, records_at, stretches_from, words_in, sheet_of}
+use Rattle.sheet.specs.Write.{place_record, word_record, preset_record, edition_record, end_record, edition_records, presets_from, records_at, stretches_from, before_end, sheet_of}
 use Rattle.memory.proofs.Stores.{sets_append, sets_front}
 
 -- the records of one word
@@ -131,38 +130,46 @@ length_presets : (c : Core) → length (presets_from c 12 0) ≡ 12
 unfolding presets_from
 length_presets c = refl
 
--- the sheet after its edition: the presets, the stretches and the end
-abbrev pub body : Core → List ℕ → List ℕ
-body c mem = presets_from c 12 0 ++ (stretches_from 0 0 mem ++ end_record (words_in mem) ∷ [])
+-- how many records stand before the end
+abbrev pub before_count : ℕ → List ℕ → ℕ
+before_count ed mem = length (edition_records ed) + (12 + length (stretches_from 0 0 mem))
 
-pub sheet_parts : (c : Core) (ed : ℕ) (mem : List ℕ) → sheet_of c ed mem ≡ edition_records ed ++ body c mem
+-- the sheet after its edition: the presets, the stretches and the end
+abbrev pub body : Core → List ℕ → ℕ → List ℕ
+body c mem n = presets_from c 12 0 ++ (stretches_from 0 0 mem ++ end_record n ∷ [])
+
+length_before : (c : Core) (ed : ℕ) (mem : List ℕ) → length (before_end c ed mem) ≡ before_count ed mem
+length_before c ed mem = simp (length-append, length_presets, add_assoc (length (edition_records ed)) 12 (length (stretches_from 0 0 mem)))
+
+pub sheet_parts : (c : Core) (ed : ℕ) (mem : List ℕ) → sheet_of c ed mem ≡ edition_records ed ++ body c mem (before_count ed mem)
 unfolding sheet_of
 sheet_parts c ed mem =
     let es = edition_records ed in
     let ps = presets_from c 12 0 in
     let ss = stretches_from 0 0 mem in
-    let last : List ℕ = end_record (words_in mem) ∷ [] in
-    rw (append_assoc (es ++ ps) ss last, append_assoc es ps (ss ++ last))
+    let last : List ℕ = end_record (before_count ed mem) ∷ [] in
+    rw (length_before c ed mem, append_assoc (es ++ ps) ss last, append_assoc es ps (ss ++ last))
 
-length_body : (c : Core) (mem : List ℕ) → length (body c mem) ≡ 12 + length (stretches_from 0 0 mem) + 1
-length_body c mem = simp (length-append, length_presets, ← add_assoc 12 (length (stretches_from 0 0 mem)) 1)
+length_body : (c : Core) (mem : List ℕ) (n : ℕ) → length (body c mem n) ≡ 12 + length (stretches_from 0 0 mem) + 1
+length_body c mem n = simp (length-append, length_presets, ← add_assoc 12 (length (stretches_from 0 0 mem)) 1)
 
-pub length_sheet : (c : Core) (ed : ℕ) (mem : List ℕ) → length (sheet_of c ed mem) ≡ length (edition_records ed) + (12 + length (stretches_from 0 0 mem)) + 1
+pub length_sheet : (c : Core) (ed : ℕ) (mem : List ℕ) → length (sheet_of c ed mem) ≡ before_count ed mem + 1
+unfolding sheet_of
 length_sheet c ed mem =
-    let b = length_body c mem in
-    let e = ap length (sheet_parts c ed mem) ∙ length-append (edition_records ed) (body c mem) in
+    let b = length_before c ed mem in
+    let e = length-append (before_end c ed mem) (end_record (length (before_end c ed mem)) ∷ []) in
     omega arith
 
 -- the body as three runs of stores
 three_runs : (ps ss s : List ℕ) (x : ℕ) → set (sets (sets s 0 ps) (length ps) ss) (length ps + length ss) x ≡ sets s 0 (ps ++ (ss ++ x ∷ []))
 three_runs ps ss s x = rw (sets_append ps (ss ++ x ∷ []) s 0, zero-add (length ps), sets_append ss (x ∷ []) (sets s 0 ps) (length ps))
 
-body_in_front : (c : Core) (mem s : List ℕ) → 12 + length (stretches_from 0 0 mem) < length s
-    → set (sets (sets s 0 (presets_from c 12 0)) 12 (stretches_from 0 0 mem)) (12 + length (stretches_from 0 0 mem)) (end_record (words_in mem))
-    ≡ body c mem ++ drop (length (body c mem)) s
-body_in_front c mem s l =
-    let e = length_body c mem in
-    (rw (length_presets c) at (three_runs (presets_from c 12 0) (stretches_from 0 0 mem) s (end_record (words_in mem)))) ∙ sets_front (body c mem) s (omega arith)
+body_in_front : (c : Core) (mem s : List ℕ) (n : ℕ) → 12 + length (stretches_from 0 0 mem) < length s
+    → set (sets (sets s 0 (presets_from c 12 0)) 12 (stretches_from 0 0 mem)) (12 + length (stretches_from 0 0 mem)) (end_record n)
+    ≡ body c mem n ++ drop (length (body c mem n)) s
+body_in_front c mem s n l =
+    let e = length_body c mem n in
+    (rw (length_presets c) at (three_runs (presets_from c 12 0) (stretches_from 0 0 mem) s (end_record n))) ∙ sets_front (body c mem n) s (omega arith)
 
 -- the edition's records, none or one
 pub no_edition : (ed : ℕ) → (ed ≡ 2 → ⊥) → edition_records ed ≡ []
@@ -180,16 +187,14 @@ filled ed = by_test (eqb ed 2) (λ t. rw (one_edition ed (eqb-true ed 2 t))) (λ
 behind : (es bs s : List ℕ) → es ++ (bs ++ drop (length bs) (drop (length es) s)) ≡ es ++ bs ++ drop (length (es ++ bs)) s
 behind es bs s = rw (drop-drop (length bs) (length es) s, length-append es bs, append_assoc es bs (drop (length es + length bs) s))
 
-pub sheet_in_front : (c : Core) (ed : ℕ) (mem s : List ℕ) → length (edition_records ed) + (12 + length (stretches_from 0 0 mem)) < length s
+pub sheet_in_front : (c : Core) (ed : ℕ) (mem s : List ℕ) → before_count ed mem < length s
     → replicate (length (edition_records ed)) (edition_record ed)
-    ++ set (sets (sets (drop (length (edition_records ed)) s) 0 (presets_from c 12 0)) 12 (stretches_from 0 0 mem)) (12 + length (stretches_from 0 0 mem)) (end_record (words_in mem))
+    ++ set (sets (sets (drop (length (edition_records ed)) s) 0 (presets_from c 12 0)) 12 (stretches_from 0 0 mem)) (12 + length (stretches_from 0 0 mem))
+    (end_record (before_count ed mem))
     ≡ sheet_of c ed mem ++ drop (length (sheet_of c ed mem)) s
 sheet_in_front c ed mem s l =
+    let n = before_count ed mem in
     let left = length-drop (length (edition_records ed)) s in
-    rw (sheet_parts c ed mem, filled ed, body_in_front c mem (drop (length (edition_records ed)) s) (omega arith)) (behind (edition_records ed) (body c mem) s)
+    rw (sheet_parts c ed mem, filled ed, body_in_front c mem (drop (length (edition_records ed)) s) n (omega arith)) (behind (edition_records ed) (body c mem n) s)
 
--- no more words are nonzero than there are
-pub words_few : (mem : List ℕ) → words_in mem ≤ length mem
-words_few mem = count_by-le-length (λ v. not (eqb v 0)) mem
-
-pub ruleset sheet_laws = (length_sheet, sheet_in_front, words_few)
+pub ruleset sheet_laws = (length_sheet, sheet_in_front)

@@ -1,4 +1,4 @@
--- Loading (document 01, The rule sheet; Stops, and document 02, CR 5).
+-- Loading (document 01, The rule sheet; Stops, and document 02, CR 5 and 6).
 use Rattle.std.specs.Prelude.{ℕ, Result, Ok, Err, ◌+◌, ◌-◌, List, [], ◌∷◌, ◌++◌, length, set, replicate, ltb, eqb, if◌then◌else◌}
 use Rattle.emulator.specs.declared.core_record.Core.{Core}
 use Rattle.emulator.specs.Core.{new_core}
@@ -42,23 +42,29 @@ abbrev pub closed : List ℕ → Core → ℕ → List ℕ → Reading
 closed [] c ed mem = Reading.gives c ed mem
 closed (w ∷ ws) c ed mem = Reading.fails AfterEnd
 
--- one record, with the records ws after it, where the load address is a and n word records came before; `more` reads ws
-abbrev pub record_reads : Result Record SheetRefusal → List ℕ → (ℕ → ℕ → Core → ℕ → List ℕ → Reading) → ℕ → ℕ → Core → ℕ → List ℕ → Reading
-record_reads (Ok (Place p)) ws more a n c ed mem = more p n c ed mem
-record_reads (Ok (Word v)) ws more a n c ed mem = if ltb a (length mem) then more (a + 1) (n + 1) c ed (set mem a v) else Reading.fails PastMemory
-record_reads (Ok (Preset r v)) ws more a n c ed mem = more a n (with_register c r v) ed mem
-record_reads (Ok (Edition e)) ws more a n c ed mem = more a n c e mem
-record_reads (Ok (End k)) ws more a n c ed mem = if eqb k n then closed ws c ed mem else Reading.fails WrongCount
-record_reads (Err k) ws more a n c ed mem = Reading.fails k
+-- what a record counts for the end: 1, of every kind (document 02, CR 6)
+abbrev pub every_record : Record → ℕ
+every_record r = 1
 
--- the records in order, up to an end record
-unfoldable pub read_from : List ℕ → ℕ → ℕ → Core → ℕ → List ℕ → Reading
-read_from [] a n c ed mem = Reading.fails NoEnd
-read_from (w ∷ ws) a n c ed mem = record_reads (record_of w) ws (read_from ws) a n c ed mem
+module _ (counts : Record → ℕ) where
+  -- one record, with the records ws after it, where the load address is a and the records before count n; `more` reads ws
+  abbrev pub record_reads : Result Record SheetRefusal → List ℕ → (ℕ → ℕ → Core → ℕ → List ℕ → Reading) → ℕ → ℕ → Core → ℕ → List ℕ → Reading
+  record_reads (Ok (Place p)) ws more a n c ed mem = more p (n + counts (Place p)) c ed mem
+  record_reads (Ok (Word v)) ws more a n c ed mem =
+      if ltb a (length mem) then more (a + 1) (n + counts (Word v)) c ed (set mem a v) else Reading.fails PastMemory
+  record_reads (Ok (Preset r v)) ws more a n c ed mem = more a (n + counts (Preset r v)) (with_register c r v) ed mem
+  record_reads (Ok (Edition e)) ws more a n c ed mem = more a (n + counts (Edition e)) c e mem
+  record_reads (Ok (End k)) ws more a n c ed mem = if eqb k n then closed ws c ed mem else Reading.fails WrongCount
+  record_reads (Err k) ws more a n c ed mem = Reading.fails k
 
--- the sheet, for a memory of `size` words: load address 0, no word records, a fresh core, edition 1 and zero memory
+  -- the records in order, up to an end record
+  unfoldable pub read_from : List ℕ → ℕ → ℕ → Core → ℕ → List ℕ → Reading
+  read_from [] a n c ed mem = Reading.fails NoEnd
+  read_from (w ∷ ws) a n c ed mem = record_reads (record_of w) ws (read_from ws) a n c ed mem
+
+-- the sheet, for a memory of `size` words: load address 0, no record yet, a fresh core, edition 1 and zero memory
 abbrev pub sheet_reads : List ℕ → ℕ → Reading
-sheet_reads sheet size = read_from sheet 0 0 new_core 1 (replicate size 0)
+sheet_reads sheet size = read_from every_record sheet 0 0 new_core 1 (replicate size 0)
 
 -- whether the sheet passes, after host test 1, and what is left then
 abbrev pub tested_of : Reading → Result (Unit {0}) SheetRefusal

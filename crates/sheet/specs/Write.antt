@@ -1,5 +1,5 @@
--- Writing a rule sheet (document 01, The rule sheet; Stops, and document 02, CR 5).
-use Rattle.std.specs.Prelude.{ℕ, Result, Ok, Err, zero, suc, ◌+◌, ◌*◌, ◌^◌, List, [], ◌∷◌, ◌++◌, length, drop, count_by, not, ltb, eqb, if◌then◌else◌}
+-- Writing a rule sheet (document 01, The rule sheet; Stops, and document 02, CR 5 and 6).
+use Rattle.std.specs.Prelude.{ℕ, Result, Ok, Err, zero, suc, ◌+◌, ◌*◌, ◌^◌, List, [], ◌∷◌, ◌++◌, length, drop, ltb, eqb, if◌then◌else◌}
 use Rattle.emulator.specs.declared.core_record.Core.{Core}
 use Rattle.execute.specs.Edition.{refused_edition}
 use Rattle.memory.specs.Memory.{refused_length}
@@ -57,13 +57,13 @@ unfoldable pub stretches_from : ℕ → ℕ → List ℕ → List ℕ
 stretches_from a before [] = []
 stretches_from a before (v ∷ vs) = records_at a before v ++ stretches_from (a + 1) v vs
 
--- how many words are nonzero
-abbrev pub words_in : List ℕ → ℕ
-words_in = count_by (λ v. not (eqb v 0))
+-- what stands before the end: the edition, presets 0 to 11, the stretches
+abbrev pub before_end : Core → ℕ → List ℕ → List ℕ
+before_end c ed mem = edition_records ed ++ presets_from c 12 0 ++ stretches_from 0 0 mem
 
--- the sheet: the edition, presets 0 to 11, the stretches, and the end with the number of word records
+-- the sheet: that, and the end with the number of records before it
 unfoldable pub sheet_of : Core → ℕ → List ℕ → List ℕ
-sheet_of c ed mem = edition_records ed ++ presets_from c 12 0 ++ stretches_from 0 0 mem ++ end_record (words_in mem) ∷ []
+sheet_of c ed mem = before_end c ed mem ++ end_record (length (before_end c ed mem)) ∷ []
 
 -- writing it: host test 1, then whether the edition is neither 1 nor 2, then whether the buffer is too short
 unfoldable pub write_sheet_of : Core → ℕ → List ℕ → List ℕ → Wrote

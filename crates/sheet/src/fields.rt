@@ -15,7 +15,7 @@ pub enum Record {
     Preset(u8, u16),
     // Its number, 1 or 2.
     Edition(u16),
-    // The number of word records.
+    // The number of records before it.
     End(u32),
 }
 

@@ -44,17 +44,13 @@ pub fn load_words(words: &[u16], memory: &mut [u16]) -> Load
     }
 }
 
-// The tests of a sheet's records for a memory of `size` words, in order. (`rest` is a slice and not an iterator's, since the end record asks whether
-// more records follow.)
+// The tests of a sheet's records for a memory of `size` words, in order.
 #[tactic(auto, using(crate::proofs::SheetLaws::testing))]
 fn test_records(sheet: &[u32], size: usize) -> Result<(), SheetRefusal>
     ensures { result ≡ tested_of (sheet_reads sheet.now size) }
 {
     let mut address: usize = 0;
-    let mut words: usize = 0;
-    let mut rest = sheet;
-    while let Some((w, after)) = rest.split_first() {
-        rest = after;
+    for (before, w) in sheet.iter().enumerate() {
         match record_of(*w)? {
             Record::Place(place) => {
                 address = place as usize;
@@ -64,15 +60,14 @@ fn test_records(sheet: &[u32], size: usize) -> Result<(), SheetRefusal>
                     return Err(SheetRefusal::PastMemory);
                 }
                 address += 1;
-                words += 1;
             }
             Record::Preset(_, _) => {}
             Record::Edition(_) => {}
             Record::End(count) => {
-                if count as usize != words {
+                if count as usize != before {
                     return Err(SheetRefusal::WrongCount);
                 }
-                if !rest.is_empty() {
+                if before + 1 < sheet.len() {
                     return Err(SheetRefusal::AfterEnd);
                 }
                 return Ok(());

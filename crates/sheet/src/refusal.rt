@@ -28,7 +28,7 @@ pub enum SheetRefusal {
     NoEnd,
     // 25: records after the end.
     AfterEnd,
-    // 26: the end's count of word records.
+    // 26: the end's count of the records before it.
     WrongCount,
     // 27: the input isn't whole records, or is above 32,768 bytes.
     Input,

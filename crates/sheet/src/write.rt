@@ -2,7 +2,7 @@
 ghost use Rattle.std.specs.Prelude.{◌≡◌, ◌+◌, ◌*◌, ◌≤◌, ◌<◌, length};
 ghost use Rattle.std.proofs.lemmas.List.Edits.{sets};
 ghost use Rattle.instructions.specs.Bounded.{Bounded};
-ghost use Rattle.sheet.specs.Write.{wrote, edition_record, edition_records, preset_record, presets_from, records_at, stretches_from, words_in, write_sheet_of};
+ghost use Rattle.sheet.specs.Write.{wrote, edition_record, edition_records, preset_record, presets_from, records_at, stretches_from, write_sheet_of};
 
 use crate::fields::register;
 use crate::refusal::SheetRefusal;
@@ -31,20 +31,6 @@ fn count_records(memory: &[u16]) -> usize
     for word in memory {
         count += needed(before, *word);
         before = *word;
-    }
-    count
-}
-
-// How many words are nonzero. (With `filter` and `count` the writer takes a third longer.)
-fn count_words(memory: &[u16]) -> u32
-    requires { length memory.now ≤ 65536 }
-    ensures { result ≡ words_in memory.now }
-{
-    let mut count = 0;
-    for word in memory {
-        if *word != 0 {
-            count += 1;
-        }
     }
     count
 }
@@ -129,7 +115,6 @@ pub fn write_sheet(
     if Edition::at(edition).is_none() {
         return Err(SheetRefusal::UnknownEdition);
     }
-    let words = count_words(memory);
     let first = count_editions(edition);
     let end = 12 + count_records(memory);
     if sheet.len() <= first + end {
@@ -140,6 +125,6 @@ pub fn write_sheet(
     front.fill(edition_record(edition));
     put_presets(core, rest);
     put_stretches(memory, rest);
-    rest[end] = 0xF0000000 + words;
+    rest[end] = 0xF0000000 + (first + end) as u32;
     Ok(first + end + 1)
 }

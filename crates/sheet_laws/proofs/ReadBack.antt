@@ -7,8 +7,7 @@ use lib.ListN.{length, get_or, set, replicate, length-append, drop_of_length-le}
 use lib.Seq.{set_at, append_snoc}
 use lib.Dec.{ltb, eqb}
 use borrow.Author.Tests.{lt-ltb, le-ltb, eq-eqb, ne_eqb, eqb-true, eqb-false}
-use Rattle.std.proofs.lemmas.List.Sums.{sum_by-cons}
-use Rattle.std.specs.Prelude.{Ok, false, cond, not}
+use Rattle.std.specs.Prelude.{Ok, false}
 use Rattle.execute.specs.Edition.{refused_edition}
 use Rattle.instructions.specs.Reg.{gpr_number, gpr_at, spr_at}
 use Rattle.instructions.specs.declared.reg.SpecialPurposeRegister.{SpecialPurposeRegister}
@@ -18,8 +17,8 @@ use Rattle.emulator.specs.Core.{new_core, read_spr}
 use Rattle.instructions.proofs.Cases.{by_test, if_elim}
 use Rattle.sheet.specs.declared.fields.Record.TheVariants.{Place, Word, Preset, Edition, End}
 use Rattle.sheet.specs.Record.{kind, above16, above20, register, low, count, record_of, register_of, with_register}
-use Rattle.sheet.specs.Load.{Reading, read_from}
-use Rattle.sheet.specs.Write.{place_record, word_record, preset_record, edition_record, end_record, edition_records, presets_from, records_at, stretches_from, words_in}
+use Rattle.sheet.specs.Load.{Reading, every_record, read_from}
+use Rattle.sheet.specs.Write.{place_record, word_record, preset_record, edition_record, end_record, edition_records, presets_from, records_at, stretches_from}
 use Rattle.sheet_laws.specs.RoundTrip.{Words, WholeCore}
 use Rattle.memory.proofs.Stores.{four}
 use Rattle.sheet.proofs.WriteLaws.{at_zero, at_first, at_within, no_edition, one_edition}
@@ -69,27 +68,31 @@ is_end n l =
     rw (k, f)
 
 -- so it reads as one
+abbrev reading : List ℕ → ℕ → ℕ → Core → ℕ → List ℕ → Reading
+reading = read_from every_record
+
 module _ (ws : List ℕ) (a n : ℕ) (c : Core) (ed : ℕ) (mem : List ℕ) where
-  read_place : (p : ℕ) → p < 2 ^ 16 → read_from (place_record p ∷ ws) a n c ed mem ≡ read_from ws p n c ed mem
+  read_place : (p : ℕ) → p < 2 ^ 16 → reading (place_record p ∷ ws) a n c ed mem ≡ reading ws p (n + 1) c ed mem
   unfolding read_from
   read_place p l = rw (is_place p l)
 
-  read_word : (v : ℕ) → v < 2 ^ 16 → a < length mem → read_from (word_record v ∷ ws) a n c ed mem ≡ read_from ws (a + 1) (n + 1) c ed (set mem a v)
+  read_word : (v : ℕ) → v < 2 ^ 16 → a < length mem → reading (word_record v ∷ ws) a n c ed mem ≡ reading ws (a + 1) (n + 1) c ed (set mem a v)
   unfolding read_from
   read_word v l b = rw (is_word v l, lt-ltb a (length mem) b)
 
-  read_preset : (r v : ℕ) → r < 12 → v < 2 ^ 16 → read_from (preset_record r v ∷ ws) a n c ed mem ≡ read_from ws a n (with_register c r v) ed mem
+  read_preset : (r v : ℕ) → r < 12 → v < 2 ^ 16 → reading (preset_record r v ∷ ws) a n c ed mem ≡ reading ws a (n + 1) (with_register c r v) ed mem
   unfolding read_from
   read_preset r v b l = rw (is_preset r v b l)
 
   -- edition 1 has no record, and is what a sheet begins with
-  pub read_edition : (e : ℕ) → refused_edition e ≡ false → ed ≡ 1 → read_from (edition_records e ++ ws) a n c ed mem ≡ read_from ws a n c e mem
+  pub read_edition : (e : ℕ) → refused_edition e ≡ false → ed ≡ 1 → reading (edition_records e ++ ws) a n c ed mem ≡ reading ws a (n + length (edition_records e)) c e mem
   unfolding read_from
   read_edition e p o =
+      let none : n + 0 ≡ n = omega arith in
       by_test (eqb e 2) (λ t. rw (one_edition e (eqb-true e 2 t), eqb-true e 2 t, is_edition))
-      (λ f. rw (no_edition e (eqb-false e 2 f), o, is_first e p (eqb-false e 2 f)))
+      (λ f. rw (no_edition e (eqb-false e 2 f), o, is_first e p (eqb-false e 2 f)) (ap (λ (k : ℕ). reading ws a k c 1 mem) (sym none)))
 
-read_end : (a n : ℕ) (c : Core) (ed : ℕ) (mem : List ℕ) → n < 2 ^ 28 → read_from (end_record n ∷ []) a n c ed mem ≡ Reading.gives c ed mem
+read_end : (a n : ℕ) (c : Core) (ed : ℕ) (mem : List ℕ) → n < 2 ^ 28 → reading (end_record n ∷ []) a n c ed mem ≡ Reading.gives c ed mem
 unfolding read_from
 read_end a n c ed mem l = rw (is_end n l, eq-eqb n n refl)
 
@@ -109,12 +112,13 @@ register_fits c h r = if_elim (λ (w : ℕ). w < 2 ^ 16) (ltb r 8) (λ t. h.gprs
     special EF = h.ef
 
 read_takes : (c : Core) → WholeCore c → (k r : ℕ) → r + k ≤ 12 → (ws : List ℕ) (a n : ℕ) (d : Core) (ed : ℕ) (mem : List ℕ)
-    → read_from (presets_from c k r ++ ws) a n d ed mem ≡ read_from ws a n (takes c k r d) ed mem
+    → reading (presets_from c k r ++ ws) a n d ed mem ≡ reading ws a (n + k) (takes c k r d) ed mem
 unfolding presets_from takes
-read_takes c h zero r l ws a n d ed mem = refl
+read_takes c h zero r l ws a n d ed mem = ap (λ (k : ℕ). reading ws a k d ed mem) (omega arith)
 read_takes c h (suc k) r l ws a n d ed mem =
     read_preset (presets_from c k (r + 1) ++ ws) a n d ed mem r (register_of c r) (omega arith) (register_fits c h r)
-    ∙ read_takes c h k (r + 1) (omega arith) ws a n (with_register d r (register_of c r)) ed mem
+    ∙ (let one : n + 1 + k ≡ n + suc k = omega arith in
+    rw one at (read_takes c h k (r + 1) (omega arith) ws a (n + 1) (with_register d r (register_of c r)) ed mem))
 
 eight : (l : List ℕ) → length l ≡ 8
     → get_or l 0 0 ∷ get_or l 1 0 ∷ get_or l 2 0 ∷ get_or l 3 0 ∷ get_or l 4 0 ∷ get_or l 5 0 ∷ get_or l 6 0 ∷ get_or l 7 0 ∷ [] ≡ l
@@ -127,33 +131,44 @@ unfolding takes with_register register_of
 takes_all c h = rw (eight c.gprs h.eight)
 
 pub read_presets : (c : Core) → WholeCore c → (ws : List ℕ) (a n ed : ℕ) (mem : List ℕ)
-    → read_from (presets_from c 12 0 ++ ws) a n new_core ed mem ≡ read_from ws a n c ed mem
-read_presets c h ws a n ed mem = read_takes c h 12 0 (omega arith) ws a n new_core ed mem ∙ ap (λ (d : Core). read_from ws a n d ed mem) (takes_all c h)
+    → reading (presets_from c 12 0 ++ ws) a n new_core ed mem ≡ reading ws a (n + 12) c ed mem
+read_presets c h ws a n ed mem = read_takes c h 12 0 (omega arith) ws a n new_core ed mem ∙ ap (λ (d : Core). reading ws a (n + 12) d ed mem) (takes_all c h)
 
 -- a word record at the address a where a 0 stands
 read_here : (ws pre zs : List ℕ) (x a n v ed : ℕ) (c : Core) → length pre ≡ a → x ≡ a → v < 2 ^ 16
-    → read_from (word_record v ∷ ws) x n c ed (pre ++ 0 ∷ zs) ≡ read_from ws (a + 1) (n + 1) c ed (pre ++ v ∷ zs)
+    → reading (word_record v ∷ ws) x n c ed (pre ++ 0 ∷ zs) ≡ reading ws (a + 1) (n + 1) c ed (pre ++ v ∷ zs)
 read_here ws pre zs x a n v ed c e p l =
     let size = length-append pre (0 ∷ zs) in
     let in_range : a < length (pre ++ 0 ∷ zs) = omega arith in
-    rw p (read_word ws a n c ed (pre ++ 0 ∷ zs) v l in_range ∙ ap (read_from ws (a + 1) (n + 1) c ed) (set_at pre 0 zs v a e))
+    rw p (read_word ws a n c ed (pre ++ 0 ∷ zs) v l in_range ∙ ap (reading ws (a + 1) (n + 1) c ed) (set_at pre 0 zs v a e))
 
--- what a word counts
-abbrev nonzero : ℕ → ℕ
-nonzero v = cond (not (eqb v 0)) 1 0
+-- at most one record for the edition, at most two for a word
+pub one_at_most : (ed : ℕ) → length (edition_records ed) ≤ 1
+one_at_most ed =
+    by_test (eqb ed 2) (λ t. let k = ap length (one_edition ed (eqb-true ed 2 t)) in omega arith)
+    (λ f. let k = ap length (no_edition ed (eqb-false ed 2 f)) in omega arith)
 
-counts_none : (v : ℕ) → v ≡ 0 → nonzero v ≡ 0
-counts_none v z = rw (eq-eqb v 0 z)
+two_at_most : (a b v : ℕ) → length (records_at a b v) ≤ 2
+two_at_most a b v =
+    by_test (eqb v 0) (λ z. let k = ap length (at_zero a b v (eqb-true v 0 z)) in omega arith)
+    (λ z. by_test (eqb b 0) (λ w. let k = ap length (at_first a b v (eqb-false v 0 z) (eqb-true b 0 w)) in omega arith)
+    (λ w. let k = ap length (at_within a b v (eqb-false v 0 z) (eqb-false b 0 w)) in omega arith))
 
-counts_one : (v : ℕ) → (v ≡ 0 → ⊥) → nonzero v ≡ 1
-counts_one v n = rw (ne_eqb v 0 n)
+pub stretches_few : (vs : List ℕ) (a b : ℕ) → length (stretches_from a b vs) ≤ length vs * 2
+unfolding stretches_from
+stretches_few [] a b = omega arith
+stretches_few (v ∷ vs) a b =
+    let here = two_at_most a b v in
+    let later = stretches_few vs (a + 1) v in
+    let both = length-append (records_at a b v) (stretches_from (a + 1) v vs) in
+    omega arith
 
 -- the words from address a on, and the end: the memory so far is pre, then zeros. Within a stretch the load address x is a.
 abbrev pub Reads : List ℕ → Type 0
 Reads vs =
     (pre : List ℕ) (x a n b total ed : ℕ) (c : Core) → length pre ≡ a → a + length vs ≤ 2 ^ 16 → Words vs → ((b ≡ 0 → ⊥) → x ≡ a)
-    → n + words_in vs ≡ total → total < 2 ^ 28
-    → read_from (stretches_from a b vs ++ end_record total ∷ []) x n c ed (pre ++ replicate (length vs) 0) ≡ Reading.gives c ed (pre ++ vs)
+    → n + length (stretches_from a b vs) ≡ total → total < 2 ^ 28
+    → reading (stretches_from a b vs ++ end_record total ∷ []) x n c ed (pre ++ replicate (length vs) 0) ≡ Reading.gives c ed (pre ++ vs)
 
 reads_none : Reads []
 unfolding stretches_from
@@ -164,41 +179,41 @@ reads_none pre x a n b total ed c e l h p s t =
 module _ (v : ℕ) (vs : List ℕ) (later : Reads vs) (pre : List ℕ) (a total ed : ℕ) (c : Core) (e : length pre ≡ a) (l : a + suc (length vs) ≤ 2 ^ 16)
     (h : Words (v ∷ vs)) (t : total < 2 ^ 28) where
   -- what is left, once v stands at address a
-  reads_later : (y m : ℕ) → ((v ≡ 0 → ⊥) → y ≡ a + 1) → m + words_in vs ≡ total
-      → read_from (stretches_from (a + 1) v vs ++ end_record total ∷ []) y m c ed (pre ++ v ∷ replicate (length vs) 0) ≡ Reading.gives c ed (pre ++ v ∷ vs)
+  reads_later : (y m : ℕ) → ((v ≡ 0 → ⊥) → y ≡ a + 1) → m + length (stretches_from (a + 1) v vs) ≡ total
+      → reading (stretches_from (a + 1) v vs ++ end_record total ∷ []) y m c ed (pre ++ v ∷ replicate (length vs) 0) ≡ Reading.gives c ed (pre ++ v ∷ vs)
   reads_later y m q u =
       let size = length-append pre (v ∷ []) in
       rw (append_snoc pre v (replicate (length vs) 0), append_snoc pre v vs) at
       (later (pre ++ v ∷ []) y (a + 1) m v total ed c (omega arith) (omega arith) (λ k. h (suc k)) q u t)
 
-  module _ (x n b : ℕ) (p : (b ≡ 0 → ⊥) → x ≡ a) (s : n + (nonzero v + words_in vs) ≡ total) where
+  module _ (x n b : ℕ) (p : (b ≡ 0 → ⊥) → x ≡ a) (s : n + (length (records_at a b v) + length (stretches_from (a + 1) v vs)) ≡ total) where
     Goal : Type 0
     Goal =
-        read_from (records_at a b v ++ stretches_from (a + 1) v vs ++ end_record total ∷ []) x n c ed (pre ++ 0 ∷ replicate (length vs) 0)
+        reading (records_at a b v ++ stretches_from (a + 1) v vs ++ end_record total ∷ []) x n c ed (pre ++ 0 ∷ replicate (length vs) 0)
         ≡ Reading.gives c ed (pre ++ v ∷ vs)
 
     reads_zero : v ≡ 0 → Goal
     unfolding Goal
     reads_zero z =
-        let k = counts_none v z in
+        let k = ap length (at_zero a b v z) in
         rw (at_zero a b v z)
-        (ap (λ (u : ℕ). read_from (stretches_from (a + 1) v vs ++ end_record total ∷ []) x n c ed (pre ++ u ∷ replicate (length vs) 0)) (sym z)
+        (ap (λ (u : ℕ). reading (stretches_from (a + 1) v vs ++ end_record total ∷ []) x n c ed (pre ++ u ∷ replicate (length vs) 0)) (sym z)
         ∙ reads_later x n (λ q. absurd (q z)) (omega arith))
 
     reads_first : (v ≡ 0 → ⊥) → b ≡ 0 → Goal
     unfolding Goal
     reads_first z w =
-        let k = counts_one v z in
+        let k = ap length (at_first a b v z w) in
         let more = stretches_from (a + 1) v vs ++ end_record total ∷ [] in
         let zeros : List ℕ = replicate (length vs) 0 in
         rw (at_first a b v z w)
         (read_place (word_record v ∷ more) x n c ed (pre ++ 0 ∷ zeros) a (omega arith)
-        ∙ (read_here more pre zeros a a n v ed c e refl (h 0) ∙ reads_later (a + 1) (n + 1) (λ q. refl) (omega arith)))
+        ∙ (read_here more pre zeros a a (n + 1) v ed c e refl (h 0) ∙ reads_later (a + 1) (n + 1 + 1) (λ q. refl) (omega arith)))
 
     reads_within : (v ≡ 0 → ⊥) → (b ≡ 0 → ⊥) → Goal
     unfolding Goal
     reads_within z w =
-        let k = counts_one v z in
+        let k = ap length (at_within a b v z w) in
         let more = stretches_from (a + 1) v vs ++ end_record total ∷ [] in
         rw (at_within a b v z w)
         (read_here more pre (replicate (length vs) 0) x a n v ed c e (p w) (h 0) ∙ reads_later (a + 1) (n + 1) (λ q. refl) (omega arith))
@@ -211,7 +226,7 @@ module _ (v : ℕ) (vs : List ℕ) (later : Reads vs) (pre : List ℕ) (a total 
 reads_more : (v : ℕ) (vs : List ℕ) → Reads vs → Reads (v ∷ vs)
 unfolding stretches_from Goal
 reads_more v vs later pre x a n b total ed c e l h p s t =
-    let counted : n + (nonzero v + words_in vs) ≡ total = rw (sum_by-cons nonzero v vs) at s in
+    let counted = rw (length-append (records_at a b v) (stretches_from (a + 1) v vs)) at s in
     reads_any v vs later pre a total ed c e l h t x n b p counted
 
 pub read_stretches : (vs : List ℕ) → Reads vs

@@ -1,12 +1,14 @@
 // Loading.
-use crate::show;
+use crate::cases::SHEETS;
+use crate::{left_out, show};
 use sheet::Load;
 use std::io;
 
-// Each sheet of a list.
-pub fn sheets(rt: &impl Print, list: &[&[u32]]) -> io::Result<()> {
-    for records in list {
+// Each stored sheet, and without each of its records.
+pub fn sheets(rt: &impl Print) -> io::Result<()> {
+    for records in &SHEETS {
         load(rt, records)?;
+        left_out::sheet(rt, records)?;
     }
     Ok(())
 }
@@ -47,7 +49,7 @@ fn at_length(rt: &impl Print, n: usize) -> io::Result<()> {
 fn load_each(rt: &impl Print, memory: &mut [u16]) -> io::Result<()> {
     show_load(
         rt,
-        sheet::load_sheet(&[0x1000FFFF, 0x20000005, 0xF0000001], memory),
+        sheet::load_sheet(&[0x1000FFFF, 0x20000005, 0xF0000002], memory),
     )?;
     show::sum(rt, memory)?;
     show_load(rt, sheet::load_sheet(&[], memory))?;

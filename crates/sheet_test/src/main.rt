@@ -3,6 +3,7 @@
 
 mod cases;
 mod input;
+mod left_out;
 mod load;
 mod show;
 mod write;
@@ -10,11 +11,12 @@ mod write;
 use std::io;
 
 fn main(rt: HostRuntime) -> io::Result<()> {
-    load::sheets(&rt, &cases::SHEETS)?;
+    load::sheets(&rt)?;
     load::lengths(&rt)?;
     load::word_lists(&rt)?;
-    write::small(&rt, 1, &cases::MEMORIES)?;
-    write::small(&rt, 2, &cases::MEMORIES)?;
+    write::small(&rt, 1)?;
+    write::small(&rt, 2)?;
+    left_out::written(&rt)?;
     write::room(&rt)?;
     write::editions(&rt)?;
     write::large(&rt)?;

@@ -1,11 +1,12 @@
 // Writing, and loading what was written.
+use crate::cases::MEMORIES;
 use crate::load::show_load;
 use crate::show;
 use emulator::Core;
 use std::io;
 
 // A core whose registers all differ.
-fn core() -> Core {
+pub fn core() -> Core {
     Core {
         gprs: [1, 2, 3, 4, 5, 6, 7, 0xFFFF],
         ip: 8,
@@ -34,9 +35,9 @@ fn write(
     Ok(())
 }
 
-// Each memory of a list, with the records, and the buffer past them.
-pub fn small(rt: &impl Print, edition: u16, list: &[[u16; 4]]) -> io::Result<()> {
-    for memory in list {
+// Each stored memory, with the records, and the buffer past them.
+pub fn small(rt: &impl Print, edition: u16) -> io::Result<()> {
+    for memory in &MEMORIES {
         write_small(rt, edition, memory)?;
     }
     Ok(())

@@ -568,11 +568,11 @@ pub fn load_words(core: &mut Core, edition: &mut u16, words: &[u16], memory: &mu
 }
 
 /// The kinds of a sheet's records.
-const PLACE: u32 = 1;
-const WORD: u32 = 2;
-const PRESET: u32 = 3;
-const EDITION: u32 = 7;
-const END: u32 = 15;
+pub const PLACE: u32 = 1;
+pub const WORD: u32 = 2;
+pub const PRESET: u32 = 3;
+pub const EDITION: u32 = 7;
+pub const END: u32 = 15;
 
 pub fn load_sheet(core: &mut Core, edition: &mut u16, sheet: &[u32], memory: &mut [u16]) -> Result<(), Refusal> {
     (*core, *edition) = (Core::new(), 1);
@@ -595,9 +595,9 @@ pub fn load_sheet(core: &mut Core, edition: &mut u16, sheet: &[u32], memory: &mu
     Ok(())
 }
 
-/// The sheet's stops, record by record.
+/// The sheet's stops, record by record. An end has the number of all records before it (document 02).
 pub fn sheet_test(sheet: &[u32], length: usize) -> Result<(), Refusal> {
-    let (mut address, mut words) = (0, 0);
+    let mut address = 0;
     for (i, &record) in sheet.iter().enumerate() {
         let kind = record >> 28;
         let free_bits = match kind {
@@ -614,8 +614,8 @@ pub fn sheet_test(sheet: &[u32], length: usize) -> Result<(), Refusal> {
             EDITION => edition_test(record as u16)?,
             PLACE => address = record as u16 as usize,
             WORD if address >= length => return Err(Refusal(23)),
-            WORD => (address, words) = (address + 1, words + 1),
-            END if record << 4 >> 4 != words => return Err(Refusal(26)),
+            WORD => address += 1,
+            END if (record << 4 >> 4) as usize != i => return Err(Refusal(26)),
             END if i + 1 < sheet.len() => return Err(Refusal(25)),
             END => return Ok(()),
             _ => {}
@@ -638,18 +638,19 @@ fn register(core: &mut Core, number: u32) -> &mut u16 {
 pub fn write_sheet(core: &Core, edition: u16, memory: &[u16], sheet: &mut [u32]) -> Result<usize, Refusal> {
     length_test(memory.len())?;
     edition_test(edition)?;
-    if sheet.len() < records(core, edition, memory).count() {
+    let before_end = records(core, edition, memory).count();
+    if sheet.len() <= before_end {
         return Err(Refusal(4));
     }
-    let mut count = 0;
-    for record in records(core, edition, memory) {
-        sheet[count] = record;
-        count += 1;
+    let end = END << 28 | before_end as u32;
+    for (place, record) in sheet.iter_mut().zip(records(core, edition, memory).chain([end])) {
+        *place = record;
     }
-    Ok(count)
+    Ok(before_end + 1)
 }
 
-/// The edition where it is 2, presets 0 to 11, a place before each stretch of nonzero words, those words, the end.
+/// What stands before the end: the edition where it is 2, presets 0 to 11, a place before each stretch of nonzero words,
+/// those words.
 fn records<'a>(core: &Core, edition: u16, memory: &'a [u16]) -> impl Iterator<Item = u32> + 'a {
     let mut core = *core;
     let chosen = (edition == 2).then_some(EDITION << 28 | 2);
@@ -659,8 +660,7 @@ fn records<'a>(core: &Core, edition: u16, memory: &'a [u16]) -> impl Iterator<It
         let place = begins.then_some(PLACE << 28 | at as u32);
         place.into_iter().chain([WORD << 28 | word as u32])
     });
-    let count = memory.iter().filter(|&&word| word != 0).count() as u32;
-    chosen.into_iter().chain(presets).chain(words).chain([END << 28 | count])
+    chosen.into_iter().chain(presets).chain(words)
 }
 
 /// Both lists followed by zeros to one length.

@@ -40,7 +40,7 @@ fn compare_load_words(machine: &dyn Machine, core: Core, words: &[u16], length: 
 /// The edition that a load finds, and never leaves.
 const FOUND: u16 = 7;
 
-fn compare_load_sheet(machine: &dyn Machine, lent: &Lent, report: &mut Report) -> Called<Result<(), Refusal>> {
+pub fn compare_load_sheet(machine: &dyn Machine, lent: &Lent, report: &mut Report) -> Called<Result<(), Refusal>> {
     let lent = Lent { edition: FOUND, ..lent.clone() };
     compare(machine, "loading a sheet", &lent, load_sheet, report)
 }
@@ -59,27 +59,24 @@ fn odd_edition(random: &mut Random) -> u32 {
 
 /// Random records, most of them right, with the right count at an end that most often stands last.
 fn random_sheet(random: &mut Random, length: usize) -> Vec<u32> {
-    let mut words = 0;
-    let mut sheet: Vec<u32> = (0..random.below(12))
-        .map(|_| match random.below(48) {
+    let before_end = random.below(12) as u32;
+    let mut sheet: Vec<u32> = (0..before_end)
+        .map(|before| match random.below(48) {
             0 => random.number() as u32,
-            1 => 0xF000_0000 | words,
+            1 => 0xF000_0000 | before,
             2 => 0x3000_0000 | (random.number() as u32 % 0x10_0000),
             3..=12 => 0x3000_0000 | (random.below(12) as u32) << 16 | random.word() as u32,
             13..=18 => 0x1000_0000 | (random.below(length + 1) as u32 % 0x1_0000),
             19..=22 => 0x7000_0000 | random.pick(&[1, 2]),
             23 => odd_edition(random),
-            _ => {
-                words += 1;
-                0x2000_0000 | random.word() as u32
-            }
+            _ => 0x2000_0000 | random.word() as u32,
         })
         .collect();
     match random.below(16) {
         0 => {}
         1 => sheet.push(0xF000_0000 | random.below(12) as u32),
-        2 => sheet.extend([0xF000_0000 | words, random.number() as u32]),
-        _ => sheet.push(0xF000_0000 | words),
+        2 => sheet.extend([0xF000_0000 | before_end, random.number() as u32]),
+        _ => sheet.push(0xF000_0000 | before_end),
     }
     if random.one_in(8) && !sheet.is_empty() {
         let at = random.below(sheet.len());
@@ -92,7 +89,7 @@ fn random_sheet(random: &mut Random, length: usize) -> Vec<u32> {
 fn load_address(machine: &dyn Machine, report: &mut Report) {
     for (length, room) in [(65535, 2), (65535, 3), (65536, 1), (65536, 2), (65536, 3)] {
         let place = 0x1000_0000 | (length - room) as u32;
-        let sheet = vec![place, 0x2000_0007, 0x2000_0008, 0x2000_0009, 0xF000_0003];
+        let sheet = vec![place, 0x2000_0007, 0x2000_0008, 0x2000_0009, 0xF000_0004];
         compare_load_sheet(machine, &lent(Core::new(), vec![0xBEEF; length], 0, sheet), report);
     }
 }

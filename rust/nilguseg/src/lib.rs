@@ -163,7 +163,8 @@ impl Core {
         })
     }
 
-    /// Sets memory, core and edition as the sheet says. The core becomes a fresh one and the edition 1 where it refuses.
+    /// Sets memory, core and edition as the sheet says, whose end counts all records before it. The core becomes a fresh one and
+    /// the edition 1 where it refuses.
     pub fn load_sheet(&mut self, edition: &mut u16, sheet: &[u32], memory: &mut [u16]) -> Result<(), Refusal> {
         // SAFETY: as in `load_words`.
         refusal(unsafe {
@@ -171,7 +172,8 @@ impl Core {
         })
     }
 
-    /// Writes the sheet that restores this core, edition and memory, and answers how many records it has.
+    /// Writes the sheet that restores this core, edition and memory, and answers how many records it has, the end included, which
+    /// counts all others.
     pub fn write_sheet(&self, edition: u16, memory: &[u16], sheet: &mut [u32]) -> Result<usize, Refusal> {
         let (records, room) = (sheet.as_mut_ptr(), sheet.len());
         // SAFETY: as in `step`.

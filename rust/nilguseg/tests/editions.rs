@@ -175,7 +175,8 @@ fn a_written_sheet_restores_the_edition() {
     assert_eq!(start.write_sheet(1, &memory, &mut sheets[0]), Ok(15));
     assert_eq!(start.write_sheet(2, &memory, &mut sheets[1]), Ok(16));
     assert_eq!((sheets[0][0], sheets[1][0]), (0x3000_0001, 0x7000_0002));
-    assert_eq!(sheets[0][..15], sheets[1][1..16], "the edition comes before what edition 1 has");
+    assert_eq!(sheets[0][..14], sheets[1][1..15], "the edition comes before what edition 1 has");
+    assert_eq!((sheets[0][14], sheets[1][15]), (0xF000_000E, 0xF000_000F), "and the end counts it");
     assert_eq!((&sheets[0][15..], &sheets[1][16..]), (&[UNUSED; 3][..], &[UNUSED; 2][..]));
     assert_eq!(start.write_sheet(2, &memory, &mut [UNUSED; 15]), Err(Refusal(4)));
 
@@ -184,6 +185,11 @@ fn a_written_sheet_restores_the_edition() {
         assert_eq!(core.load_sheet(&mut loaded, &sheets[edition - 1][..count], &mut restored), Ok(()));
         assert_eq!((core, loaded, restored), (start, edition as u16, memory));
     }
+}
+
+/// The sheet of these records: they, and the end that counts them.
+fn ended(records: &[u32]) -> Vec<u32> {
+    [records, &[0xF000_0000 | records.len() as u32]].concat()
 }
 
 /// What a load over a core, an edition and a memory with other values answers and leaves.
@@ -197,37 +203,37 @@ fn load(sheet: &[u32]) -> (Result<(), Refusal>, u16, Core, [u16; 2]) {
 fn a_sheet_chooses_its_edition() {
     const FIRST: u32 = 0x7000_0001;
     const SECOND: u32 = 0x7000_0002;
-    let (word, end) = (0x2000_FFFF, 0xF000_0001);
+    const WORD: u32 = 0x2000_FFFF;
     let cases: [(&[u32], u16); 8] = [
-        (&[word, end], 1),
-        (&[FIRST, word, end], 1),
-        (&[SECOND, word, end], 2),
-        (&[word, SECOND, end], 2),
-        (&[FIRST, word, SECOND, end], 2),
-        (&[SECOND, word, FIRST, end], 1),
-        (&[SECOND, FIRST, SECOND, word, end], 2),
-        (&[SECOND, SECOND, FIRST, word, end], 1),
+        (&[WORD], 1),
+        (&[FIRST, WORD], 1),
+        (&[SECOND, WORD], 2),
+        (&[WORD, SECOND], 2),
+        (&[FIRST, WORD, SECOND], 2),
+        (&[SECOND, WORD, FIRST], 1),
+        (&[SECOND, FIRST, SECOND, WORD], 2),
+        (&[SECOND, SECOND, FIRST, WORD], 1),
     ];
-    for (sheet, edition) in cases {
-        assert_eq!(load(sheet), (Ok(()), edition, Core::new(), [0xFFFF, 0]), "{sheet:08x?}");
+    for (records, edition) in cases {
+        assert_eq!(load(&ended(records)), (Ok(()), edition, Core::new(), [0xFFFF, 0]), "{records:08x?}");
     }
 }
 
 #[test]
 fn a_refused_sheet_has_edition_1() {
     let cases: [(&[u32], u8); 13] = [
-        (&[0x7000_0000, 0xF000_0000], 34),
-        (&[0x7000_0003, 0xF000_0000], 34),
-        (&[0x7000_0101, 0xF000_0000], 34),
-        (&[0x7000_FFFF, 0xF000_0000], 34),
-        (&[0x7001_0002, 0xF000_0000], 21),
-        (&[0x7800_0002, 0xF000_0000], 21),
-        (&[0x7001_0000, 0xF000_0000], 21),
-        (&[0x7000_0002, 0x300C_0000, 0x7000_0003, 0xF000_0000], 22),
-        (&[0x7000_0002, 0x7000_0003, 0x300C_0000, 0xF000_0000], 34),
+        (&[0x7000_0000, 0xF000_0001], 34),
+        (&[0x7000_0003, 0xF000_0001], 34),
+        (&[0x7000_0101, 0xF000_0001], 34),
+        (&[0x7000_FFFF, 0xF000_0001], 34),
+        (&[0x7001_0002, 0xF000_0001], 21),
+        (&[0x7800_0002, 0xF000_0001], 21),
+        (&[0x7001_0000, 0xF000_0001], 21),
+        (&[0x7000_0002, 0x300C_0000, 0x7000_0003, 0xF000_0003], 22),
+        (&[0x7000_0002, 0x7000_0003, 0x300C_0000, 0xF000_0003], 34),
         (&[0x7000_0002, 0x2000_0007, 0x2000_0008, 0x2000_0009, 0x7000_0003], 23),
-        (&[0x7000_0002, 0xF000_0001], 26),
-        (&[0x7000_0002, 0xF000_0000, 0x7000_0001], 25),
+        (&[0x7000_0002, 0xF000_0000], 26),
+        (&[0x7000_0002, 0xF000_0001, 0x7000_0001], 25),
         (&[0x7000_0002], 24),
     ];
     for (sheet, number) in cases {
@@ -238,10 +244,10 @@ fn a_refused_sheet_has_edition_1() {
 #[test]
 fn a_loaded_edition_is_the_one_to_run() {
     // putl r1 16, shl r0 r1, hlt, with 1 in r0
-    let rule = [0x3000_0001, 0x2000_1110, 0x2000_4410, 0x2000_FFFF, 0xF000_0003];
-    let run = |sheet: &[u32]| {
+    let rule = [0x3000_0001, 0x2000_1110, 0x2000_4410, 0x2000_FFFF];
+    let run = |records: &[u32]| {
         let (mut core, mut edition, mut memory) = (Core::new(), 0, [0; 3]);
-        assert_eq!(core.load_sheet(&mut edition, sheet, &mut memory), Ok(()));
+        assert_eq!(core.load_sheet(&mut edition, &ended(records), &mut memory), Ok(()));
         (core.run(&mut memory, &mut [0; 3], edition, 9), core.r[0])
     };
     let stopped = Run { end: Outcome::Fault(Fault { number: 13, value: 16 }), steps: 1 };

@@ -165,7 +165,7 @@ fn a_sheet_sets_words_and_registers() {
     assert_eq!(core.load_sheet(&mut edition, &EXAMPLE_SHEET, &mut memory), Ok(()));
     assert_eq!((core, edition, memory), (Core::new(), 1, [0x1003, 0xFFFF, 0, 0]));
 
-    let sheet = [0x1000_0002, 0x2000_0007, 0x3008_0002, 0x300B_0003, 0x3008_0001, 0xF000_0001];
+    let sheet = [0x1000_0002, 0x2000_0007, 0x3008_0002, 0x300B_0003, 0x3008_0001, 0xF000_0005];
     assert_eq!(core.load_sheet(&mut edition, &sheet, &mut memory), Ok(()));
     assert_eq!((core, memory), (Core { ip: 1, ef: 3, ..Core::new() }, [0, 0, 7, 0]));
 }
@@ -173,12 +173,12 @@ fn a_sheet_sets_words_and_registers() {
 #[test]
 fn a_wrong_sheet_is_refused_and_writes_nothing() {
     let cases: [(&[u32], u8); 11] = [
-        (&[0x0000_0000, 0xF000_0000], 20),
-        (&[0x4000_0000, 0xF000_0000], 20),
+        (&[0x0000_0000, 0xF000_0001], 20),
+        (&[0x4000_0000, 0xF000_0001], 20),
         (&[0x2001_0000, 0xF000_0001], 21),
-        (&[0x3010_0000, 0xF000_0000], 21),
-        (&[0x300C_0000, 0xF000_0000], 22),
-        (&[0x1000_0004, 0x2000_0001, 0xF000_0001], 23),
+        (&[0x3010_0000, 0xF000_0001], 21),
+        (&[0x300C_0000, 0xF000_0001], 22),
+        (&[0x1000_0004, 0x2000_0001, 0xF000_0002], 23),
         (&[0x2000_1003], 24),
         (&[], 24),
         (&[0xF000_0000, 0x0000_0000], 25),
@@ -201,7 +201,7 @@ fn a_written_sheet_restores_core_and_memory() {
     let count = BUSY.write_sheet(1, &memory, &mut sheet).unwrap();
     assert_eq!(count, 18);
     assert_eq!(sheet[0], 0x3000_0001);
-    assert_eq!(sheet[12..18], [0x1000_0001, 0x2000_0007, 0x2000_0008, 0x1000_0005, 0x2000_0009, 0xF000_0003]);
+    assert_eq!(sheet[12..18], [0x1000_0001, 0x2000_0007, 0x2000_0008, 0x1000_0005, 0x2000_0009, 0xF000_0011]);
     assert_eq!(sheet[18..], [0xDEAD_BEEF; 2]);
 
     let (mut core, mut edition, mut restored) = (Core::new(), 7, [0xBEEF; 6]);

@@ -1,20 +1,17 @@
 -- `apply_sheet`: a word has its place, and a law for each way out.
 use Rattle.std.proofs.Common.{rules, ◌<◌, length}
-use mathlib.Core.Path.{ap}
-use lib.ListN.{drop_of_length-le}
-use lib.Seq.{drop-cons}
-use Rattle.sheet.proofs.SheetLaws.{applying, apply_in, apply_none, apply_refused, apply_end}
+use Rattle.sheet.proofs.SheetLaws.{apply_in, apply_none, apply_refused, apply_end}
 use Rattle.sheet.proofs.load.apply_sheet.Goals as goal
 use Rattle.sheet.proofs.load.apply_sheet.Goals.{In-Word}
 
 pub returns-in_default : goal.returns-in_default
-returns-in_default c = apply_refused c.loop-w.invariant (drop-cons c.args.sheet.now c.loop-w.w-index 0 c.loop-w-test.true) c.in_default.ensures
+returns-in_default c = apply_refused c.loop-w.invariant c.loop-w-test.true c.in_default.ensures
 
 pub returns-in-End : goal.returns-in-End
-returns-in-End c = apply_end c.loop-w.invariant (drop-cons c.args.sheet.now c.loop-w.w-index 0 c.loop-w-test.true) c.in-Ok.ensures c.in-End.is
+returns-in-End c = apply_end c.loop-w.invariant c.loop-w-test.true c.in-Ok.ensures c.in-End.is
 
 in_memory : (c : In-Word) → c.loop-w.address < length c.loop-w.memory
-in_memory c = apply_in c.loop-w.invariant (drop-cons c.args.sheet.now c.loop-w.w-index 0 c.loop-w-test.true) c.in-Ok.ensures c.in-Word.is
+in_memory c = apply_in c.loop-w.invariant c.loop-w-test.true c.in-Ok.ensures c.in-Word.is
 
 pub offset_bounds-memory-address : goal.offset_bounds-memory-address
 offset_bounds-memory-address c = let inside = in_memory c in search rules
@@ -25,8 +22,5 @@ bounds-memory-address c = in_memory c
 pub overflow_add-address : goal.overflow_add-address
 overflow_add-address c = let inside = in_memory c in search rules
 
-pub loop-w-preserved : goal.loop-w-preserved
-loop-w-preserved c = let first = drop-cons c.args.sheet.now c.loop-w.w-index 0 c.loop-w-test.true in search (rules, applying)
-
 pub returns-after-loop-w : goal.returns-after-loop-w
-returns-after-loop-w c = apply_none c.loop-w.invariant (ap length (drop_of_length-le c.args.sheet.now c.loop-w-test.false))
+returns-after-loop-w c = apply_none c.loop-w.invariant c.loop-w-test.false
