@@ -1,2 +1,5 @@
+pub mod Reading
 pub mod ReadBack
 pub mod RoundTrip
+pub mod LeftOut
+pub mod Written

@@ -17,14 +17,15 @@ use Rattle.emulator.specs.Core.{new_core, read_spr}
 use Rattle.instructions.proofs.Cases.{by_test, if_elim}
 use Rattle.sheet.specs.declared.fields.Record.TheVariants.{Place, Word, Preset, Edition, End}
 use Rattle.sheet.specs.Record.{kind, above16, above20, register, low, count, record_of, register_of, with_register}
-use Rattle.sheet.specs.Load.{Reading, every_record, read_from}
+use Rattle.sheet.specs.Load.{Reading, read_from}
 use Rattle.sheet.specs.Write.{place_record, word_record, preset_record, edition_record, end_record, edition_records, presets_from, records_at, stretches_from}
 use Rattle.sheet_laws.specs.RoundTrip.{Words, WholeCore}
 use Rattle.memory.proofs.Stores.{four}
 use Rattle.sheet.proofs.WriteLaws.{at_zero, at_first, at_within, no_edition, one_edition}
+use Rattle.sheet_laws.proofs.Reading.{reading}
 
 -- each record has the kind and the fields that it was made of
-is_place : (a : ℕ) → a < 2 ^ 16 → record_of (place_record a) ≡ Ok (Place a)
+pub is_place : (a : ℕ) → a < 2 ^ 16 → record_of (place_record a) ≡ Ok (Place a)
 unfolding record_of
 is_place a l =
     let k : kind (place_record a) ≡ 1 = omega arith in
@@ -32,7 +33,7 @@ is_place a l =
     let f : low (place_record a) ≡ a = omega arith in
     rw (k, z, f)
 
-is_word : (v : ℕ) → v < 2 ^ 16 → record_of (word_record v) ≡ Ok (Word v)
+pub is_word : (v : ℕ) → v < 2 ^ 16 → record_of (word_record v) ≡ Ok (Word v)
 unfolding record_of
 is_word v l =
     let k : kind (word_record v) ≡ 2 = omega arith in
@@ -40,7 +41,7 @@ is_word v l =
     let f : low (word_record v) ≡ v = omega arith in
     rw (k, z, f)
 
-is_preset : (r v : ℕ) → r < 12 → v < 2 ^ 16 → record_of (preset_record r v) ≡ Ok (Preset r v)
+pub is_preset : (r v : ℕ) → r < 12 → v < 2 ^ 16 → record_of (preset_record r v) ≡ Ok (Preset r v)
 unfolding record_of
 is_preset r v b l =
     let k : kind (preset_record r v) ≡ 3 = omega arith in
@@ -52,15 +53,15 @@ is_preset r v b l =
     rw (k, z, g, le-ltb 11 r (omega arith), f)
 
 -- an edition that is neither refused nor 2 is 1
-is_first : (ed : ℕ) → refused_edition ed ≡ false → (ed ≡ 2 → ⊥) → ed ≡ 1
+pub is_first : (ed : ℕ) → refused_edition ed ≡ false → (ed ≡ 2 → ⊥) → ed ≡ 1
 unfolding refused_edition
 is_first ed p n = by_test (eqb ed 1) (λ t. eqb-true ed 1 t) (λ f. let both = rw (f, ne_eqb ed 2 n) at p in cc)
 
-is_edition : record_of (edition_record 2) ≡ Ok (Edition 2)
+pub is_edition : record_of (edition_record 2) ≡ Ok (Edition 2)
 unfolding record_of refused_edition
 is_edition = refl
 
-is_end : (n : ℕ) → n < 2 ^ 28 → record_of (end_record n) ≡ Ok (End n)
+pub is_end : (n : ℕ) → n < 2 ^ 28 → record_of (end_record n) ≡ Ok (End n)
 unfolding record_of
 is_end n l =
     let k : kind (end_record n) ≡ 15 = omega arith in
@@ -68,9 +69,6 @@ is_end n l =
     rw (k, f)
 
 -- so it reads as one
-abbrev reading : List ℕ → ℕ → ℕ → Core → ℕ → List ℕ → Reading
-reading = read_from every_record
-
 module _ (ws : List ℕ) (a n : ℕ) (c : Core) (ed : ℕ) (mem : List ℕ) where
   read_place : (p : ℕ) → p < 2 ^ 16 → reading (place_record p ∷ ws) a n c ed mem ≡ reading ws p (n + 1) c ed mem
   unfolding read_from
@@ -101,7 +99,7 @@ takes : Core → ℕ → ℕ → Core → Core
 takes c zero r d = d
 takes c (suc k) r d = takes c k (r + 1) (with_register d r (register_of c r))
 
-register_fits : (c : Core) → WholeCore c → (r : ℕ) → register_of c r < 2 ^ 16
+pub register_fits : (c : Core) → WholeCore c → (r : ℕ) → register_of c r < 2 ^ 16
 unfolding register_of
 register_fits c h r = if_elim (λ (w : ℕ). w < 2 ^ 16) (ltb r 8) (λ t. h.gprs (gpr_number (gpr_at r))) (λ t. special (spr_at (r - 8)))
   where

@@ -16,7 +16,7 @@ use Rattle.sheet.proofs.WriteLaws.{before_count, body, sheet_parts}
 use Rattle.sheet_laws.proofs.ReadBack.{one_at_most, stretches_few, read_edition, read_presets, read_stretches}
 
 -- the writer's sheet is accepted: it gives the core, the edition and the memory that it was made of
-accepted : (c : Core) (ed : ℕ) (mem : List ℕ) → WholeCore c → refused_edition ed ≡ false → Words mem → length mem ≤ 65536
+pub accepted : (c : Core) (ed : ℕ) (mem : List ℕ) → WholeCore c → refused_edition ed ≡ false → Words mem → length mem ≤ 65536
     → sheet_reads (sheet_of c ed mem) (length mem) ≡ Reading.gives c ed mem
 accepted c ed mem h p w l =
     let es = edition_records ed in
