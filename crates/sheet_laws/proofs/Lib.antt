@@ -3,3 +3,4 @@ pub mod ReadBack
 pub mod RoundTrip
 pub mod LeftOut
 pub mod Written
+pub mod WordRecords
