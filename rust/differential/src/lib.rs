@@ -5,6 +5,7 @@ mod calls;
 mod editions;
 mod lists;
 mod logs;
+mod losses;
 pub mod machine;
 pub mod mistakes;
 pub mod model;
@@ -38,6 +39,8 @@ pub struct Effort {
     pub measured: u32,
     /// Sheets loaded and written.
     pub sheets: usize,
+    /// Sheets written in each edition, of which each record is taken out.
+    pub losses: usize,
     /// Pairs of word lists drawn.
     pub lists: usize,
     /// Programs run with a log.
@@ -59,6 +62,7 @@ pub const FULL: Effort = Effort {
     runs: 20_000_000,
     measured: 1_000_000,
     sheets: 400_000,
+    losses: 50_000,
     lists: 1_000_000,
     logs: 20_000,
     rights: 60_000,
@@ -74,6 +78,7 @@ pub const SHORT: Effort = Effort {
     runs: 2_000_000,
     measured: 100_000,
     sheets: 40_000,
+    losses: 5_000,
     lists: 100_000,
     logs: 1_000,
     rights: 2_000,
@@ -90,6 +95,7 @@ pub const CONTROL: Effort = Effort {
     runs: 300_000,
     measured: 10_000,
     sheets: 10_000,
+    losses: 100,
     lists: 10_000,
     logs: 300,
     rights: 60,
@@ -101,10 +107,11 @@ pub const CONTROL: Effort = Effort {
 type Part = fn(&dyn Machine, &Effort, &mut Report);
 
 /// By the time that they take, so that most wrong machines are found soon.
-const PARTS: [Part; 14] = [
+const PARTS: [Part; 15] = [
     |machine, _, report| words::decode(machine, report),
     |machine, effort, report| lists::lists(machine, effort.lists, report),
     |machine, effort, report| sheets::sheets(machine, effort.sheets, report),
+    |machine, effort, report| losses::lost_records(machine, effort.losses, report),
     |machine, effort, report| steps::every_value(machine, effort.stride, report),
     |machine, effort, report| runs::measured(machine, effort.measured, report),
     |machine, _, report| sheets::refusals(machine, report),

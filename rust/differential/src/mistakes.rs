@@ -1,6 +1,7 @@
 //! Wrong machines, each the model with one mistake. The comparison must report every one of them; the first
 //! five are the "Mistakes met in such machines" of document 01.
 
+mod counts;
 mod editions;
 mod rights;
 
@@ -33,6 +34,9 @@ enum Mistake {
     LoadWords(Load<u16>),
     LoadSheet(Load<u32>),
     WriteSheet(Write),
+    CountTaken(Taken),
+    /// The count that the writer puts at the end, by the records before it.
+    CountPut(fn(&[u32]) -> u32),
     Compare(fn(&[u16], &[u16]) -> Ordering),
     Earlier(for<'a> fn(&'a [u16], &'a [u16]) -> &'a [u16]),
 }
@@ -41,6 +45,8 @@ type RunLogged = fn(&mut Core, &mut [u16], &mut [u8], Terms, u32, &mut [u32]) ->
 type Replay = fn(&mut Core, usize, Terms, u32, &[u32]) -> Run;
 type Load<T> = fn(&mut Core, &mut u16, &[T], &mut [u16]) -> Result<(), Refusal>;
 type Write = fn(&Core, u16, &[u16], &mut [u32]) -> Result<usize, Refusal>;
+/// Whether the count of an end is taken for right, by the records before it.
+type Taken = fn(u32, &[u32]) -> bool;
 
 /// A step of the model, to be spoilt.
 struct Stepped<'a> {
@@ -230,6 +236,7 @@ impl Machine for WrongMachine {
     fn load_sheet(&self, core: &mut Core, edition: &mut u16, sheet: &[u32], memory: &mut [u16]) -> Result<(), Refusal> {
         match self.mistake {
             Mistake::LoadSheet(load) => load(core, edition, sheet, memory),
+            Mistake::CountTaken(taken) => model::load_sheet(core, edition, &counts::decided(taken, sheet), memory),
             _ => model::load_sheet(core, edition, sheet, memory),
         }
     }
@@ -237,6 +244,7 @@ impl Machine for WrongMachine {
     fn write_sheet(&self, core: &Core, edition: u16, memory: &[u16], sheet: &mut [u32]) -> Result<usize, Refusal> {
         match self.mistake {
             Mistake::WriteSheet(write) => write(core, edition, memory, sheet),
+            Mistake::CountPut(put) => counts::write(put, core, edition, memory, sheet),
             Mistake::Edition(taken) => model::write_sheet(core, taken(edition), memory, sheet),
             _ => model::write_sheet(core, edition, memory, sheet),
         }
@@ -269,13 +277,22 @@ const fn found(name: &'static str, found: model::Found) -> WrongMachine {
     WrongMachine { name, mistake: Mistake::Found(found) }
 }
 
+const fn loaded(name: &'static str, load: Load<u32>) -> WrongMachine {
+    WrongMachine { name, mistake: Mistake::LoadSheet(load) }
+}
+
 const fn other(name: &'static str, mistake: Mistake) -> WrongMachine {
     WrongMachine { name, mistake }
 }
 
+/// The sheet with each record changed, which is given with those before it.
+fn changed(sheet: &[u32], change: impl Fn(&[u32], u32) -> u32) -> Vec<u32> {
+    sheet.iter().enumerate().map(|(at, record)| change(&sheet[..at], *record)).collect()
+}
+
 /// All of them.
 pub fn wrong_machines() -> impl Iterator<Item = &'static WrongMachine> {
-    WRONG_MACHINES.iter().chain(&rights::RIGHTS).chain(&editions::EDITIONS)
+    WRONG_MACHINES.iter().chain(&rights::RIGHTS).chain(&editions::EDITIONS).chain(&counts::COUNTS)
 }
 
 const WRONG_MACHINES: [WrongMachine; 80] = [

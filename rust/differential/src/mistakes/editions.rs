@@ -6,10 +6,6 @@ const fn taken(name: &'static str, taken: fn(u16) -> u16) -> WrongMachine {
     WrongMachine { name, mistake: Mistake::Edition(taken) }
 }
 
-const fn loaded(name: &'static str, load: Load<u32>) -> WrongMachine {
-    WrongMachine { name, mistake: Mistake::LoadSheet(load) }
-}
-
 const fn written(name: &'static str, write: Write) -> WrongMachine {
     WrongMachine { name, mistake: Mistake::WriteSheet(write) }
 }
@@ -62,12 +58,7 @@ fn deciding(sheet: &[u32], length: usize) -> Option<u32> {
     (1..=sheet.len()).find(decided).map(|count| sheet[count - 1])
 }
 
-/// The sheet with each record changed, which is given with those before it.
-fn changed(sheet: &[u32], change: fn(&[u32], u32) -> u32) -> Vec<u32> {
-    sheet.iter().enumerate().map(|(at, record)| change(&sheet[..at], *record)).collect()
-}
-
-pub const EDITIONS: [WrongMachine; 48] = [
+pub const EDITIONS: [WrongMachine; 47] = [
     step("shr by 16 gives the register", |s| {
         if s.far(SHR) && s.operands().1 == 16 {
             s.core.r[s.first] = s.operands().0;
@@ -256,7 +247,7 @@ pub const EDITIONS: [WrongMachine; 48] = [
     written("edition 2 is not written", |core, edition, memory, sheet| {
         model::write_sheet(core, if edition == 2 { 1 } else { edition }, memory, sheet)
     }),
-    written("the edition is not among the records counted", |core, edition, memory, sheet| {
+    written("the edition is not among the records that a write answers", |core, edition, memory, sheet| {
         let count = model::write_sheet(core, edition, memory, sheet)?;
         Ok(if edition == 2 { count - 1 } else { count })
     }),
@@ -309,13 +300,6 @@ pub const EDITIONS: [WrongMachine; 48] = [
     loaded("bits 27 to 16 of an edition are not tested", |core, edition, sheet, memory| {
         let tested = |_: &[u32], record: u32| if is_edition(&record) { record & 0xF000_FFFF } else { record };
         model::load_sheet(core, edition, &changed(sheet, tested), memory)
-    }),
-    loaded("an edition is counted at the end", |core, edition, sheet, memory| {
-        let recount = |before: &[u32], record: u32| match record >> 28 {
-            15 => 15 << 28 | record.wrapping_sub(before.iter().filter(|one| is_edition(one)).count() as u32) << 4 >> 4,
-            _ => record,
-        };
-        model::load_sheet(core, edition, &changed(sheet, recount), memory)
     }),
     loaded("a record of kind 7 is unknown", |core, edition, sheet, memory| {
         let unknown = |_: &[u32], record: u32| if is_edition(&record) { record << 4 >> 4 } else { record };
