@@ -1,7 +1,7 @@
 // What is loaded and written.
 
 // Sheets.
-pub const SHEETS: [&[u32]; 104] = [
+pub const SHEETS: [&[u32]; 60] = [
     // Accepted: the end alone
     &[0xF0000000],
     // the program's example
@@ -24,70 +24,6 @@ pub const SHEETS: [&[u32]; 104] = [
     &[0x40000000, 0xF0000001],
     // kind 14
     &[0xE0000000, 0xF0000001],
-    // 21: bit 16 of a place
-    &[0x10010000, 0xF0000001],
-    // bit 17 of a place
-    &[0x10020000, 0xF0000001],
-    // bit 18 of a place
-    &[0x10040000, 0xF0000001],
-    // bit 19 of a place
-    &[0x10080000, 0xF0000001],
-    // bit 20 of a place
-    &[0x10100000, 0xF0000001],
-    // bit 21 of a place
-    &[0x10200000, 0xF0000001],
-    // bit 22 of a place
-    &[0x10400000, 0xF0000001],
-    // bit 23 of a place
-    &[0x10800000, 0xF0000001],
-    // bit 24 of a place
-    &[0x11000000, 0xF0000001],
-    // bit 25 of a place
-    &[0x12000000, 0xF0000001],
-    // bit 26 of a place
-    &[0x14000000, 0xF0000001],
-    // bit 27 of a place
-    &[0x18000000, 0xF0000001],
-    // bit 16 of a word
-    &[0x20010000, 0xF0000001],
-    // bit 17 of a word
-    &[0x20020000, 0xF0000001],
-    // bit 18 of a word
-    &[0x20040000, 0xF0000001],
-    // bit 19 of a word
-    &[0x20080000, 0xF0000001],
-    // bit 20 of a word
-    &[0x20100000, 0xF0000001],
-    // bit 21 of a word
-    &[0x20200000, 0xF0000001],
-    // bit 22 of a word
-    &[0x20400000, 0xF0000001],
-    // bit 23 of a word
-    &[0x20800000, 0xF0000001],
-    // bit 24 of a word
-    &[0x21000000, 0xF0000001],
-    // bit 25 of a word
-    &[0x22000000, 0xF0000001],
-    // bit 26 of a word
-    &[0x24000000, 0xF0000001],
-    // bit 27 of a word
-    &[0x28000000, 0xF0000001],
-    // bit 20 of a preset
-    &[0x30100000, 0xF0000001],
-    // bit 21 of a preset
-    &[0x30200000, 0xF0000001],
-    // bit 22 of a preset
-    &[0x30400000, 0xF0000001],
-    // bit 23 of a preset
-    &[0x30800000, 0xF0000001],
-    // bit 24 of a preset
-    &[0x31000000, 0xF0000001],
-    // bit 25 of a preset
-    &[0x32000000, 0xF0000001],
-    // bit 26 of a preset
-    &[0x34000000, 0xF0000001],
-    // bit 27 of a preset
-    &[0x38000000, 0xF0000001],
     // 22: register 12, and 11 is one
     &[0x300C0001, 0xF0000001],
     &[0x300B0001, 0xF0000001],
@@ -156,30 +92,6 @@ pub const SHEETS: [&[u32]; 104] = [
     // 20: the kinds beside it
     &[0x60000002, 0xF0000001],
     &[0x80000002, 0xF0000001],
-    // 21: bit 16 of an edition
-    &[0x70010002, 0xF0000001],
-    // bit 17 of an edition
-    &[0x70020002, 0xF0000001],
-    // bit 18 of an edition
-    &[0x70040002, 0xF0000001],
-    // bit 19 of an edition
-    &[0x70080002, 0xF0000001],
-    // bit 20 of an edition
-    &[0x70100002, 0xF0000001],
-    // bit 21 of an edition
-    &[0x70200002, 0xF0000001],
-    // bit 22 of an edition
-    &[0x70400002, 0xF0000001],
-    // bit 23 of an edition
-    &[0x70800002, 0xF0000001],
-    // bit 24 of an edition
-    &[0x71000002, 0xF0000001],
-    // bit 25 of an edition
-    &[0x72000002, 0xF0000001],
-    // bit 26 of an edition
-    &[0x74000002, 0xF0000001],
-    // bit 27 of an edition
-    &[0x78000002, 0xF0000001],
     // 34: edition 0
     &[0x70000000, 0xF0000001],
     // edition 3

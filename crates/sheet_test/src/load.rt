@@ -13,6 +13,26 @@ pub fn sheets(rt: &impl Print) -> io::Result<()> {
     Ok(())
 }
 
+// 21: each bit that must be 0, of each kind of record.
+pub fn bits(rt: &impl Print) -> io::Result<()> {
+    for (record, from) in [
+        (0x10000000, 16),
+        (0x20000000, 16),
+        (0x30000000, 20),
+        (0x70000002, 16),
+    ] {
+        bits_from(rt, record, from)?;
+    }
+    Ok(())
+}
+
+fn bits_from(rt: &impl Print, record: u32, from: u32) -> io::Result<()> {
+    for bit in from..28 {
+        load(rt, &[record | 1 << bit, 0xF0000001])?;
+    }
+    Ok(())
+}
+
 // Loads a sheet into a memory of four words that held something else.
 fn load(rt: &impl Print, records: &[u32]) -> io::Result<()> {
     let mut memory = [7u16; 4];

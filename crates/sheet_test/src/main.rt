@@ -12,6 +12,7 @@ use std::io;
 
 fn main(rt: HostRuntime) -> io::Result<()> {
     load::sheets(&rt)?;
+    load::bits(&rt)?;
     load::lengths(&rt)?;
     load::word_lists(&rt)?;
     write::small(&rt, 1)?;
