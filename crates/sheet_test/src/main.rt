@@ -1,4 +1,5 @@
-// Loads and writes sheets and word lists of every kind and prints a line for each: what was given, the answer, what it left.
+// Loads and writes sheets and word lists of every kind and prints a line for each: what was given, the answer, what it left. A sheet that is accepted has
+// another line, of the answers to it without each of its records.
 #![tactic(auto)]
 
 mod cases;
