@@ -25,21 +25,16 @@ use Rattle.sheet.proofs.WriteLaws.{at_zero, at_first, at_within, no_edition, one
 use Rattle.sheet_laws.proofs.Reading.{reading}
 
 -- each record has the kind and the fields that it was made of
+fields : (k v : ℕ) → v < 2 ^ 16 → (kind (k * 2 ^ 28 + v) ≡ k) × (above16 (k * 2 ^ 28 + v) ≡ 0) × (low (k * 2 ^ 28 + v) ≡ v)
+fields k v l = (omega arith, omega arith, omega arith)
+
 pub is_place : (a : ℕ) → a < 2 ^ 16 → record_of (place_record a) ≡ Ok (Place a)
 unfolding record_of
-is_place a l =
-    let k : kind (place_record a) ≡ 1 = omega arith in
-    let z : above16 (place_record a) ≡ 0 = omega arith in
-    let f : low (place_record a) ≡ a = omega arith in
-    rw (k, z, f)
+is_place a l = let f = fields 1 a l in rw (f.0, f.1, f.2)
 
 pub is_word : (v : ℕ) → v < 2 ^ 16 → record_of (word_record v) ≡ Ok (Word v)
 unfolding record_of
-is_word v l =
-    let k : kind (word_record v) ≡ 2 = omega arith in
-    let z : above16 (word_record v) ≡ 0 = omega arith in
-    let f : low (word_record v) ≡ v = omega arith in
-    rw (k, z, f)
+is_word v l = let f = fields 2 v l in rw (f.0, f.1, f.2)
 
 pub is_preset : (r v : ℕ) → r < 12 → v < 2 ^ 16 → record_of (preset_record r v) ≡ Ok (Preset r v)
 unfolding record_of
