@@ -2,8 +2,8 @@
  * for the logged runs, libnilguseg_log.a, for the replays, libnilguseg_replay.a, and for nilguseg_run_guarded,
  * libnilguseg_guarded.a.
  *
- * The numbers of faults and refusals are those of document 01; the order of word lists, the log, the rights over memory and
- * the editions of the instruction set, with the numbers from 30 on, are those of document 02.
+ * The numbers of faults and refusals are those of document 01; the order of word lists, the log, the rights over memory, the
+ * editions of the instruction set and what the end of a sheet counts, with the numbers from 30 on, are those of document 02.
  *
  * An edition is handed over by its number, 1 or 2: steps, runs, replays and the sheet writer take one, and a load gives one
  * back. Edition 1 is that of document 01.

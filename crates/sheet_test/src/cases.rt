@@ -53,7 +53,7 @@ pub const SHEETS: [&[u32]; 60] = [
     // lacks a place, and has it
     &[0x20000001, 0x10000003, 0xF0000001],
     &[0x20000001, 0x10000003, 0xF0000002],
-    // lacks the word of four records of four kinds, and has it
+    // is that of three of four records, of four kinds, and of all four
     &[0x70000001, 0x30000001, 0x10000003, 0x20000001, 0xF0000003],
     &[0x70000001, 0x30000001, 0x10000003, 0x20000001, 0xF0000004],
     // has bit 27

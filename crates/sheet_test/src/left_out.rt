@@ -28,7 +28,7 @@ pub fn written(rt: &impl Print) -> io::Result<()> {
     Ok(())
 }
 
-// A number that follows another (Numerical Recipes' constants).
+// The next pseudo-random number, by a linear congruence (with the constants of Numerical Recipes).
 fn next(random: u32) -> u32 {
     random.wrapping_mul(1664525).wrapping_add(1013904223)
 }
