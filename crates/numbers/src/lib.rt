@@ -4,7 +4,7 @@
 ghost use Rattle.std.specs.Prelude.{◌≡◌};
 ghost use Rattle.std.specs.Option.{option_zip};
 ghost use Rattle.instructions.specs.Reg.{register_of};
-ghost use Rattle.numbers.specs.Instruction.{numbers, numbers_of, packed, instruction_of};
+ghost use Rattle.numbers.specs.Instruction.{numbers, numbers_of, packed, instruction_of, NumbersEncode};
 
 use instructions::{Instruction, Register};
 
@@ -270,3 +270,9 @@ pub fn instruction(kind: u8, first: u8, second: u8) -> Option<Instruction>
     };
     Some(ins)
 }
+
+/// The numbers that a decoded instruction is given encode to its word.
+#[tactic(auto, using(crate::proofs::Laws::numbers_encode))]
+pub fn numbers_name_instructions()
+    ensures { NumbersEncode }
+{}

@@ -1,3 +1,24 @@
-// Theorems about the definitions of `order`, with no code of their own (specs/ states them, proofs/ proves them): the order is total and
-// transitive, and equal lists differ in trailing zeros only and load alike.
+// Theorems about the definitions of `order`. Each is the contract of a function with an empty body: specs/ states it, proofs/ proves it.
 #![tactic(auto)]
+
+ghost use Rattle.order_laws.specs.Claims.{Equality, FirstDifference, LoadAlike, Total, Transitive};
+
+/// Of two lists exactly one comes first or they are equal, and the order is transitive.
+#[tactic(auto, using(crate::proofs::Claims::total, crate::proofs::Claims::transitive))]
+pub fn lists_are_ordered()
+    ensures total { Total }
+    ensures transitive { Transitive }
+{}
+
+/// Equal lists are those that differ in trailing zeros only; they answer alike against every third list, and load alike wherever both fit.
+#[tactic(auto, using(crate::proofs::Claims::equality, crate::proofs::Claims::load_alike))]
+pub fn equal_lists_are_alike()
+    ensures equality { Equality }
+    ensures load_alike { LoadAlike }
+{}
+
+/// Two lists are compared at the first place where they differ, and the part handed back begins with the smaller word there.
+#[tactic(auto, using(crate::proofs::Claims::first_difference))]
+pub fn first_difference_decides()
+    ensures { FirstDifference }
+{}

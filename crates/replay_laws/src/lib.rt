@@ -1,3 +1,10 @@
-// Theorems about the definitions of `replay`, with no code of their own (specs/ states them, proofs/ proves them): the replay of a run's log gives
-// the run's end, steps and registers.
+// The theorem about the definitions of `replay` is the contract of a function with an empty body: specs/ states it, proofs/ proves it.
 #![tactic(auto)]
+
+ghost use Rattle.replay_laws.specs.Replay.{ReplayIsRun};
+
+/// The replay of an accepted run's log gives the run's end, steps and registers, unless the run ended because its log was full.
+#[tactic(auto, using(crate::proofs::Replay::replay_is_run))]
+pub fn replays_are_runs()
+    ensures { ReplayIsRun }
+{}

@@ -1,3 +1,51 @@
-// Theorems about the definitions of `emulator`, with no code of their own (specs/ states them, proofs/ proves them): two runs agree, marks only
-// grow, a run is its steps, a logged run is the plain one, and the rows that document 01 gives.
+// Theorems about the definitions of `emulator`. Each is the contract of a function with an empty body: specs/ states it, proofs/ proves it.
 #![tactic(auto)]
+
+ghost use Rattle.run_laws.specs.Agreement.{Agreement, PlainAgreement};
+ghost use Rattle.run_laws.specs.Claims.{Keeping, RunIsSteps};
+ghost use Rattle.run_laws.specs.Editions.{Editions};
+ghost use Rattle.run_laws.specs.Logs.{FullIsPlain, LogSize, LoggedIsPlain};
+ghost use Rattle.run_laws.specs.Rights.{Isolation, SevensArePlain};
+ghost use Rattle.run_laws.specs.Rows.{Rows};
+
+/// Office and quay agree: two accepted runs of the same core, limit, length, rights and edition, whose memories start equal wherever the first run's
+/// final mark includes 1, have the same end, steps, registers, marks, written words and log.
+#[tactic(auto, using(crate::proofs::Agreement::agreement, crate::proofs::Agreement::plain_agreement))]
+pub fn runs_agree()
+    ensures logged { Agreement }
+    ensures plain { PlainAgreement }
+{}
+
+/// A page without any right is neither read nor written, nor does it change a run; with every right on every page it is the run without rights.
+#[tactic(auto, using(crate::proofs::Rights::isolation, crate::proofs::Sevens::sevens_are_plain))]
+pub fn rights_isolate_pages()
+    ensures isolated { Isolation }
+    ensures sevens { SevensArePlain }
+{}
+
+/// A log changes no run but where it is full, and has two words for each read.
+#[tactic(auto, using(crate::proofs::Logs::logged_is_plain, crate::proofs::Logs::full_is_plain, crate::proofs::Logs::log_size))]
+pub fn logs_change_no_run()
+    ensures logged { LoggedIsPlain }
+    ensures full { FullIsPlain }
+    ensures size { LogSize }
+{}
+
+/// A run is its steps, one after another; marks only grow, and lengths never change.
+#[tactic(auto, using(crate::proofs::Claims::run_is_steps, crate::proofs::Claims::keeping))]
+pub fn runs_are_steps()
+    ensures steps { RunIsSteps }
+    ensures keeping { Keeping }
+{}
+
+/// A run in edition 1 that ends by neither of the stops 13 and 14 is the run in edition 2, and no run in edition 2 ends by one.
+#[tactic(auto, using(crate::proofs::Editions::run_editions))]
+pub fn editions_differ_by_stops()
+    ensures { Editions }
+{}
+
+/// The words that a planner would recognise, computed.
+#[tactic(auto, using(crate::proofs::Rows::rows))]
+pub fn known_words_run_as_listed()
+    ensures { Rows }
+{}

@@ -1,3 +1,26 @@
-// Theorems about the definitions of `sheet`, with no code of their own (specs/ states them, proofs/ proves them): what is written loads back, a
-// sheet that lost a record is refused, and what becomes of the sheets whose ends counted words alone.
+// Theorems about the definitions of `sheet`. Each is the contract of a function with an empty body: specs/ states it, proofs/ proves it.
 #![tactic(auto)]
+
+ghost use Rattle.sheet_laws.specs.LeftOut.{EndCounts, LeftOut, LeftOutOfWritten};
+ghost use Rattle.sheet_laws.specs.RoundTrip.{RoundTrip};
+ghost use Rattle.sheet_laws.specs.WordRecords.{BothRules};
+
+/// The sheet that the writer gives restores core, edition and memory when it is loaded.
+#[tactic(auto, using(crate::proofs::RoundTrip::round_trip))]
+pub fn written_sheets_load_back()
+    ensures { RoundTrip }
+{}
+
+/// A sheet that lost one of its records is refused: its last record is the end, and counts those before it.
+#[tactic(auto, using(crate::proofs::LeftOut::end_counts, crate::proofs::LeftOut::left_out, crate::proofs::Written::left_out_of_written))]
+pub fn lost_records_are_refused()
+    ensures end_counts { EndCounts }
+    ensures left_out { LeftOut }
+    ensures left_out_of_written { LeftOutOfWritten }
+{}
+
+/// What becomes of the sheets whose ends counted words alone.
+#[tactic(auto, using(crate::proofs::WordRecords::both_rules))]
+pub fn old_sheets_want_new_ends()
+    ensures { BothRules }
+{}
