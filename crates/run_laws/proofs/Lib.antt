@@ -6,3 +6,4 @@ pub mod Editions
 pub mod Rights
 pub mod Sevens
 pub mod Rows
+pub mod Ends

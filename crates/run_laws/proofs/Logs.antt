@@ -26,12 +26,12 @@ use Rattle.run_laws.specs.Agreement.{HasRoom}
 use Rattle.run_laws.specs.Logs.{LoggedIsPlain, cut_at, FullIsPlain, Reads, no_read, one_more, AtMost, LogSize}
 
 -- from an outcome that is two different ones, which `cc` makes 0 ≡ 1
-clash : {A : Type 0} → ◌≡◌ {A = ℕ} 0 1 → A
+pub clash : {A : Type 0} → ◌≡◌ {A = ℕ} 0 1 → A
 clash z = absurd (omega arith)
 
 -- How many reads a log has.
 
-two_words : {n : ℕ} {l : List ℕ} → Reads n l → length l ≡ 2 * n
+pub two_words : {n : ℕ} {l : List ℕ} → Reads n l → length l ≡ 2 * n
 two_words no_read = refl
 two_words (one_more r p a w) = let h = two_words r in rw length-append (omega arith)
 
@@ -54,7 +54,7 @@ one_read : (p : Purpose) (a w : ℕ) → AtMost 1 (entry_of p a w)
 one_read p a w = record { count = 1; reads = one_more no_read p a w; within = omega arith }
 
 -- How a cycle comes out, with its log: it steps, after at most two reads, or it faults, after at most one.
-data Comes : Outcome → List ℕ → Type 0 where
+pub data Comes : Outcome → List ℕ → Type 0 where
   steps : {l : List ℕ} → AtMost 2 l → Comes stepped l
   faults : {n v : ℕ} {l : List ℕ} → AtMost 1 l → Comes (fault n v) l
 
@@ -86,7 +86,7 @@ access_comes rights {f} h c (store a v) m = by_answer ((memory_store rights).wri
 access_comes rights h c (stop s) m = stop_comes (more_reads 1 h no_reads (omega arith)) s
 
 module _ (rights : Option (List ℕ)) (plan : Core → ℕ → Plan) where
-  cycle_comes : (c : Core) (m : Memory) → Comes (cycle_of (memory_store rights) plan c m).result.outcome (cycle_of (memory_store rights) plan c m).log
+  pub cycle_comes : (c : Core) (m : Memory) → Comes (cycle_of (memory_store rights) plan c m).result.outcome (cycle_of (memory_store rights) plan c m).log
   unfolding cycle_of
   cycle_comes c m = by_answer ((memory_store rights).read m Purpose.Fetch c.ip).answer
     where
@@ -124,7 +124,7 @@ turns_reads rights plan over why (suc k) n c m l h =
     (λ _. next_reads (run_until (memory_store rights) plan over why k (n + 1)) n l h (turns_reads rights plan over why k (n + 1)) _ _ (cycle_comes rights plan c m)))
 
 -- a run is its turns, or is refused with nothing logged
-run_in_by : (P : Logged (Ran Memory) → Type 0) (plan : Edition → Core → ℕ → Plan) (given : Setting) (c : Core) (m : Memory) (limit : ℕ)
+pub run_in_by : (P : Logged (Ran Memory) → Type 0) (plan : Edition → Core → ℕ → Plan) (given : Setting) (c : Core) (m : Memory) (limit : ℕ)
     → P (run_from (memory_store given.rights) (plan (edition_of given.edition)) given.room limit 0 c (unmarked m) []) → P (logged (ran (refused (refusal_in given m)) 0 c m) []) → P (run_in plan given c m limit)
 unfolding run_in
 run_in_by P plan given c m limit turns refusal = if_elim P (eqb (refusal_in given m) 0) (λ _. turns) (λ _. refusal)

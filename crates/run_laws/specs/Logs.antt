@@ -1,7 +1,7 @@
 -- What is claimed of a logged run and of its log (document 02, CR 2).
 use Rattle.std.specs.Prelude.{ℕ, ◌+◌, ◌*◌, ◌≤◌, List, [], ◌++◌, ◌≡◌, length, Option}
 use Rattle.execute.specs.declared.edition.Edition.{Edition}
-use Rattle.memory.specs.Log.{entry_of, Logged}
+use Rattle.memory.specs.Log.{entry_of, Logged, words}
 use Rattle.memory.specs.Memory.{Memory}
 use Rattle.memory.specs.Outcome as outcome
 use Rattle.memory.specs.Store.{memory_store}
@@ -45,3 +45,9 @@ pub record LogSize : Type 0 where
       → AtMost (2 * (run_in plan_of given c m limit).result.steps + 1) (run_in plan_of given c m limit).log
   pub in_buffer : (c : Core) (m : Memory) (limit : ℕ) (buffer : List ℕ) (rights : Option (List ℕ)) (edition : ℕ)
       → length (run_in plan_of (logging_in buffer rights edition) c m limit).log ≤ length buffer
+
+-- a logged run with room for four words a step of its limit doesn't end by 30
+abbrev pub FourWordsSuffice : Type 0
+FourWordsSuffice =
+    (given : Setting) (c : Core) (m : Memory) (limit n : ℕ) → given.room ≡ words n → 4 * limit ≤ n
+    → HasRoom (run_in plan_of given c m limit)

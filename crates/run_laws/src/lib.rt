@@ -4,7 +4,8 @@
 ghost use Rattle.run_laws.specs.Agreement.{Agreement, PlainAgreement};
 ghost use Rattle.run_laws.specs.Claims.{Keeping, RunIsSteps};
 ghost use Rattle.run_laws.specs.Editions.{Editions};
-ghost use Rattle.run_laws.specs.Logs.{FullIsPlain, LogSize, LoggedIsPlain};
+ghost use Rattle.run_laws.specs.Ends.{LimitMeans};
+ghost use Rattle.run_laws.specs.Logs.{FourWordsSuffice, FullIsPlain, LogSize, LoggedIsPlain};
 ghost use Rattle.run_laws.specs.Rights.{Isolation, SevensArePlain};
 ghost use Rattle.run_laws.specs.Rows.{Rows};
 
@@ -23,12 +24,13 @@ pub fn rights_isolate_pages()
     ensures sevens { SevensArePlain }
 {}
 
-/// A log changes no run but where it is full, and has two words for each read.
-#[tactic(auto, using(crate::proofs::Logs::logged_is_plain, crate::proofs::Logs::full_is_plain, crate::proofs::Logs::log_size))]
+/// A log changes no run but where it is full, and has two words for each read; room for four words a step always suffices.
+#[tactic(auto, using(crate::proofs::Logs::logged_is_plain, crate::proofs::Logs::full_is_plain, crate::proofs::Logs::log_size, crate::proofs::Ends::four_words_suffice))]
 pub fn logs_change_no_run()
     ensures logged { LoggedIsPlain }
     ensures full { FullIsPlain }
     ensures size { LogSize }
+    ensures room { FourWordsSuffice }
 {}
 
 /// A run is its steps, one after another; marks only grow, and lengths never change.
@@ -36,6 +38,12 @@ pub fn logs_change_no_run()
 pub fn runs_are_steps()
     ensures steps { RunIsSteps }
     ensures keeping { Keeping }
+{}
+
+/// A run ends by its limit exactly where it counted as many steps and isn't halted, halted exactly where halt is set; a step that faults isn't counted.
+#[tactic(auto, using(crate::proofs::Ends::limit_means))]
+pub fn limits_count_steps()
+    ensures { LimitMeans }
 {}
 
 /// A run in edition 1 that ends by neither of the stops 13 and 14 is the run in edition 2, and no run in edition 2 ends by one.

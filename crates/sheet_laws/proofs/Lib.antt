@@ -4,3 +4,4 @@ pub mod RoundTrip
 pub mod LeftOut
 pub mod Written
 pub mod WordRecords
+pub mod Size

@@ -1,3 +1,4 @@
 pub mod RoundTrip
 pub mod LeftOut
 pub mod WordRecords
+pub mod Size

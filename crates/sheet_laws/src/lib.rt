@@ -3,12 +3,14 @@
 
 ghost use Rattle.sheet_laws.specs.LeftOut.{EndCounts, LeftOut, LeftOutOfWritten};
 ghost use Rattle.sheet_laws.specs.RoundTrip.{RoundTrip};
+ghost use Rattle.sheet_laws.specs.Size.{SheetFits};
 ghost use Rattle.sheet_laws.specs.WordRecords.{BothRules};
 
-/// The sheet that the writer gives restores core, edition and memory when it is loaded.
-#[tactic(auto, using(crate::proofs::RoundTrip::round_trip))]
+/// The sheet that the writer gives restores core, edition and memory when it is loaded, and has at most 14 + n + (n + 1) / 2 records of n words.
+#[tactic(auto, using(crate::proofs::RoundTrip::round_trip, crate::proofs::Size::sheet_fits))]
 pub fn written_sheets_load_back()
-    ensures { RoundTrip }
+    ensures round_trip { RoundTrip }
+    ensures size { SheetFits }
 {}
 
 /// A sheet that lost one of its records is refused: its last record is the end, and counts those before it.
