@@ -1,13 +1,14 @@
 // The program `berth`: reads a rule sheet from standard input, runs it, and prints one line.
 #![tactic(auto)]
 
-ghost use Rattle.std.specs.Io.KnownBytes.{Consumes, IsAtEnd};
+ghost use Rattle.line.specs.Line.{line_of};
+ghost use Rattle.std.specs.Io.KnownBytes.{Appends, Consumes, IsAtEnd};
 ghost use Rattle.std.specs.Io.{ReadsAtMost};
-ghost use Rattle.std.specs.Prelude.{◌<◌, IfOk, length, take};
+ghost use Rattle.std.specs.Prelude.{◌<◌, IfOk, IfSome, OnOk, length, take};
 
 use line::line_of;
 use std::io;
-use std::io::Read;
+use std::io::{Read, Write};
 
 // Reads until `buf` is full or the input ends, and answers how many bytes it put at the start of `buf`. (`read_to_end` wants a `Vec`, and
 // there is no heap.)
@@ -27,9 +28,18 @@ fn read_full<R: Read>(reader: &mut R, buf: &mut [u8]) -> io::Result<usize>
     Ok(done)
 }
 
-fn main(rt: HostRuntime) -> io::Result<()> {
+/// Reads the whole input and writes its line. Where it succeeds, the reader's bytes, if they are known, are the input, and the writer gets its line
+/// and nothing else; an error of the reader or the writer is handed on.
+pub fn run<R: Read, W: Write>(reader: &mut R, writer: &mut W) -> io::Result<()>
+    ensures { OnOk result (IfSome (R.remaining reader.old)
+        (λ input. Appends (W.contents writer.old) (W.contents writer.new) (line_of input))) }
+{
     // One byte more than the longest input that is accepted tells that there are too many.
     let mut input = [0u8; 32769];
-    let read = read_full(&mut rt.stdin(), &mut input)?;
-    rt.write_all(line_of(&input[..read]).as_slice())
+    let read = read_full(reader, &mut input)?;
+    writer.write_all(line_of(&input[..read]).as_slice())
+}
+
+fn main(rt: HostRuntime) -> io::Result<()> {
+    run(&mut rt.stdin(), &mut rt.stdout())
 }
