@@ -1,0 +1,4 @@
+pub mod Calls
+pub mod Sheets
+pub mod Line
+pub mod Refused

@@ -1,0 +1,11 @@
+// Theorems about the refusals of every call. Each is the contract of a function with an empty body: specs/ states it, proofs/ proves it.
+#![tactic(auto)]
+
+ghost use Rattle.refusal_laws.specs.Refused.{Refused, RefusedLine};
+
+/// A call is refused by the first of its tests that fails, exactly where one fails, and then every word and byte that it was lent keeps its value.
+#[tactic(auto, using(crate::proofs::Refused::refused, crate::proofs::Line::refused_line))]
+pub fn first_failing_test_refuses()
+    ensures calls { Refused }
+    ensures line { RefusedLine }
+{}
