@@ -2,13 +2,15 @@
 // `Instruction::decode` must have no caller here but the cycle, or it is not inlined into the run: see `nilguseg_words`.
 #![tactic(auto)]
 
-ghost use Rattle.std.specs.Prelude.{◌≡◌, [], ◌∷◌};
+ghost use Rattle.std.specs.Prelude.{◌≡◌, ◌<◌, ◌^◌, ℕ, List, [], ◌∷◌, length, take, Ok};
 ghost use Rattle.memory.specs.Memory.{lent};
-ghost use Rattle.emulator.specs.Machine.{plan_of, step_of, run_of};
+ghost use Rattle.emulator.specs.Machine.{plan_of, plain, step_of, run_of};
+ghost use Rattle.run_laws.specs.Agreement.{AgreesWithOthers};
 ghost use Rattle.order.specs.Order.{order_of, part_of};
-ghost use Rattle.sheet.specs.Load.{load_words_of, load_sheet_of};
+ghost use Rattle.sheet.specs.Load.{left, load_words_of, load_sheet_of};
 ghost use Rattle.sheet.specs.Write.{write_sheet_of};
 ghost use Rattle.nilguseg.specs.Host.{core_from, call, step_call, run_call, load_call, write_call, order_number, part_call};
+ghost use Rattle.nilguseg_c.specs.Host.{exchanged};
 
 use nilguseg::{core_of, order_number, put_load, put_run, put_step, written_number};
 use order::{compare, earlier_part};
@@ -36,7 +38,11 @@ pub extern "C" fn nilguseg_run(
     edition: u16,
     limit: u32,
 ) -> u64
-    ensures { call result (core.new ∷ memory.new ∷ marks.new ∷ []) ≡ run_call (run_of plan_of (core_from core.old) (lent memory.old marks.old) edition limit) }
+    ensures run { call result (core.new ∷ memory.new ∷ marks.new ∷ []) ≡ run_call (run_of plan_of (core_from core.old) (lent memory.old marks.old) edition limit) }
+    // If no host test refuses it: any other such run of this core, edition and limit agrees with
+    // it, if its memory is as long and starts equal wherever this run's final marks include 1.
+    ensures agreement { AgreesWithOthers (plain edition) (core_from core.old)
+        (lent memory.old marks.old) limit marks.new }
 {
     put_run(core_of(*core).run(memory, marks, edition, limit), core)
 }
@@ -75,7 +81,12 @@ pub extern "C" fn nilguseg_write_sheet(
     memory: &[u16],
     sheet: &mut [u32],
 ) -> u64
-    ensures { call result (sheet.new ∷ []) ≡ write_call (write_sheet_of (core_from core.now) edition memory.now sheet.old) }
+    ensures written { call result (sheet.new ∷ []) ≡ write_call (write_sheet_of (core_from core.now) edition memory.now sheet.old) }
+    // Unless it is refused, what it wrote loads back into any memory as long: the core, the edition
+    // and the words.
+    ensures loads_back { (held : List ℕ) → length held ≡ length memory.now → result < 2 ^ 32
+        → load_sheet_of (take result sheet.new) held
+        ≡ left (Ok tt) (core_from core.now) edition memory.now }
 {
     written_number(write_sheet(core_of(*core), edition, memory, sheet))
 }
@@ -83,7 +94,9 @@ pub extern "C" fn nilguseg_write_sheet(
 // Which of two word lists comes first.
 #[unsafe(no_mangle)]
 pub extern "C" fn nilguseg_compare(first: &[u16], second: &[u16]) -> u32
-    ensures { result ≡ order_number (order_of first.now second.now) }
+    ensures order { result ≡ order_number (order_of first.now second.now) }
+    // If the lists change places, first and second change places in the answer.
+    ensures exchanged { order_number (order_of second.now first.now) ≡ exchanged result }
 {
     order_number(compare(first, second))
 }

@@ -2,9 +2,11 @@
 // plain run would test at each access whether there are rights.
 #![tactic(auto)]
 
-ghost use Rattle.std.specs.Prelude.{[], ◌∷◌, ◌≡◌};
+ghost use Rattle.std.specs.Prelude.{[], ◌∷◌, ◌≡◌, Some};
 ghost use Rattle.memory.specs.Memory.{lent};
-ghost use Rattle.emulator.specs.Machine.{plan_of, run_guarded_of};
+ghost use Rattle.emulator.specs.Machine.{plan_of, refusal_in, run_guarded_of, unlogged};
+ghost use Rattle.run_laws.specs.Agreement.{AgreesWithOthers};
+ghost use Rattle.run_laws.specs.Rights.{ClosedKept};
 ghost use Rattle.nilguseg.specs.Host.{core_from, call, run_call};
 
 use nilguseg::{core_of, put_run};
@@ -19,7 +21,15 @@ pub extern "C" fn nilguseg_run_guarded(
     edition: u16,
     limit: u32,
 ) -> u64
-    ensures { call result (core.new ∷ memory.new ∷ marks.new ∷ []) ≡ run_call (run_guarded_of plan_of (core_from core.old) (lent memory.old marks.old) rights.now edition limit) }
+    ensures run { call result (core.new ∷ memory.new ∷ marks.new ∷ []) ≡ run_call (run_guarded_of plan_of (core_from core.old) (lent memory.old marks.old) rights.now edition limit) }
+    // If no host test refuses it: any other such run of this core, edition, limit and these rights
+    // agrees with it, if its memory is as long and starts equal wherever this run's final marks
+    // include 1.
+    ensures agreement { AgreesWithOthers (unlogged (Some rights.now) edition) (core_from core.old)
+        (lent memory.old marks.old) limit marks.new }
+    // If no host test refuses it, it leaves every page without any right its words, and mark 0.
+    ensures closed { refusal_in (unlogged (Some rights.now) edition) (lent memory.old marks.old) ≡ 0
+        → ClosedKept (Some rights.now) (lent memory.old marks.old) (lent memory.new marks.new) }
 {
     let run = core_of(*core).run_guarded(memory, marks, rights, edition, limit);
     put_run(run, core)

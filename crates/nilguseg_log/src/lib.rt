@@ -2,12 +2,14 @@
 // `execute` would have two callers, and the compiler would inline them into neither loop.
 #![tactic(auto)]
 
-ghost use Rattle.std.specs.Prelude.{[], ◌∷◌, ◌≡◌};
+ghost use Rattle.std.specs.Prelude.{[], ◌∷◌, ◌≡◌, take, Some, None};
 ghost use Rattle.memory.specs.Memory.{lent};
 ghost use Rattle.emulator.specs.Answers.{end_of};
-ghost use Rattle.emulator.specs.Machine.{plan_of, run_logged_of, run_logged_guarded_of};
+ghost use Rattle.emulator.specs.Machine.{logging_in, plan_of, refusal_in, run_logged_of, run_logged_guarded_of};
+ghost use Rattle.run_laws.specs.Agreement.{AgreesWithOthers};
+ghost use Rattle.run_laws.specs.Rights.{ClosedKept};
 ghost use Rattle.nilguseg.specs.Host.{core_from, call, ended_call};
-ghost use Rattle.nilguseg_log.specs.Host.{logged_call};
+ghost use Rattle.nilguseg_log.specs.Host.{logged_call, ReplaysAs};
 
 use emulator::LoggedRun;
 use nilguseg::{core_of, put_run};
@@ -31,7 +33,16 @@ pub extern "C" fn nilguseg_run_logged(
     log: &mut [u32],
     logged: &mut usize,
 ) -> u64
-    ensures { call result (core.new ∷ memory.new ∷ marks.new ∷ log.new ∷ (logged.new ∷ []) ∷ []) ≡ logged_call (run_logged_of plan_of (core_from core.old) (lent memory.old marks.old) edition limit log.old) }
+    ensures run { call result (core.new ∷ memory.new ∷ marks.new ∷ log.new ∷ (logged.new ∷ []) ∷ []) ≡ logged_call (run_logged_of plan_of (core_from core.old) (lent memory.old marks.old) edition limit log.old) }
+    // Unless a host test refuses it or the log ends it: the replay of its log, with the same core,
+    // length, edition and limit, answers the same number and leaves the same core.
+    ensures replay { ReplaysAs (logging_in log.old None edition) (core_from core.old)
+        (lent memory.old marks.old) limit (take logged.new log.new) (call result (core.new ∷ [])) }
+    // If no host test refuses it: any other such run of this core, edition and limit, with as long
+    // a buffer for its log, agrees with it, its log too, if its memory is as long and starts equal
+    // wherever this run's final marks include 1.
+    ensures agreement { AgreesWithOthers (logging_in log.old None edition) (core_from core.old)
+        (lent memory.old marks.old) limit marks.new }
 {
     let ended = core_of(*core).run_logged(memory, marks, edition, limit, log);
     put_logged_run(ended, core, logged)
@@ -49,7 +60,20 @@ pub extern "C" fn nilguseg_run_logged_guarded(
     log: &mut [u32],
     logged: &mut usize,
 ) -> u64
-    ensures { call result (core.new ∷ memory.new ∷ marks.new ∷ log.new ∷ (logged.new ∷ []) ∷ []) ≡ logged_call (run_logged_guarded_of plan_of (core_from core.old) (lent memory.old marks.old) rights.now edition limit log.old) }
+    ensures run { call result (core.new ∷ memory.new ∷ marks.new ∷ log.new ∷ (logged.new ∷ []) ∷ []) ≡ logged_call (run_logged_guarded_of plan_of (core_from core.old) (lent memory.old marks.old) rights.now edition limit log.old) }
+    // Unless a host test refuses it or the log ends it: the replay of its log, with the same core,
+    // length, rights, edition and limit, answers the same number and leaves the same core.
+    ensures replay { ReplaysAs (logging_in log.old (Some rights.now) edition) (core_from core.old)
+        (lent memory.old marks.old) limit (take logged.new log.new) (call result (core.new ∷ [])) }
+    // If no host test refuses it: any other such run of this core, edition, limit and these rights,
+    // with as long a buffer for its log, agrees with it, its log too, if its memory is as long and
+    // starts equal wherever this run's final marks include 1.
+    ensures agreement { AgreesWithOthers (logging_in log.old (Some rights.now) edition)
+        (core_from core.old) (lent memory.old marks.old) limit marks.new }
+    // If no host test refuses it, it leaves every page without any right its words, and mark 0.
+    ensures closed { refusal_in (logging_in log.old (Some rights.now) edition)
+        (lent memory.old marks.old) ≡ 0
+        → ClosedKept (Some rights.now) (lent memory.old marks.old) (lent memory.new marks.new) }
 {
     let ended = core_of(*core).run_logged_guarded(memory, marks, rights, edition, limit, log);
     put_logged_run(ended, core, logged)

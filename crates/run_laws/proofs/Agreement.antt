@@ -6,7 +6,7 @@ use mathlib.Core.Logic.{⊎_elim}
 use native.Mathlib.Omega.{arith}
 use lib.ListN.{length-set, length-replicate}
 use lib.Seq.{get_or-set_same, get_or-set_other}
-use Rattle.run_laws.specs.Agreement.{word_at, mark_at, AgreeLogged, equal_room, enough_room, AgreementOf, Agreement, PlainAgreement}
+use Rattle.run_laws.specs.Agreement.{word_at, mark_at, AgreeLogged, equal_room, enough_room, AgreementOf, Agreement, AgreesWithOthers, PlainAgreement}
 use Rattle.memory.specs.Log.{Logged, logged, Room}
 use Rattle.memory.specs.Memory.{Memory, lent, was_read, was_written, read_mark, write_mark, mark_read, mark_write, read_at, write_at, read_of, write_of, Below}
 use Rattle.memory.specs.Rights.{right_of}
@@ -240,6 +240,10 @@ agreement_of plan given given' c limit m m' edition rights ok ok' sizes (enough_
 
 pub agreement : Agreement
 agreement = agreement_of plan_of
+
+pub agrees_with_others : (given : Setting) (c : Core) (m : Memory) (limit : ℕ)
+    → AgreesWithOthers given c m limit (run_in plan_of given c m limit).result.memory.marks
+agrees_with_others given c m limit m' ok ok' sizes agree = in_one_setting plan_of given c limit m m' ok ok' sizes agree
 
 pub plain_agreement : PlainAgreement
 plain_agreement edition c limit m m' ok ok' sizes agree =

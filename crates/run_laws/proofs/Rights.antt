@@ -26,7 +26,7 @@ use Rattle.memory.proofs.Marks.{written_read, read_written, written_cases}
 use Rattle.memory.proofs.Places.{place_elim}
 use Rattle.emulator.proofs.Whole.{accepted_run}
 use Rattle.run_laws.specs.Agreement.{word_at, mark_at, AgreeLogged, equal_room}
-use Rattle.run_laws.specs.Rights.{Lacks, Closed, Unnamed, Untouched, EqualButClosed, AgreeButClosed, Isolation}
+use Rattle.run_laws.specs.Rights.{Lacks, Closed, Unnamed, Untouched, ClosedKept, EqualButClosed, AgreeButClosed, Isolation}
 use Rattle.run_laws.proofs.Agreement.{get_d_zeros, agreement}
 use Rattle.run_laws.proofs.Claims.{run_keeps}
 
@@ -203,6 +203,10 @@ module _ (given : Setting) (c : Core) (m m' : Memory) (limit : ℕ) (ok : refusa
           (λ z. agree.runs.first_kept a z ∙ (same a r h ∙ sym (agree.runs.second_kept a (ap (λ (l : List ℕ). was_written (get_or l a 0)) agree.runs.marks ∙ z))))
           (λ z. sym (agree.runs.written a z))
           (written_cases (mark_at (run_in plan_of given c m limit).result.memory a))
+
+pub closed_kept : (given : Setting) (c : Core) (m : Memory) (limit : ℕ) → refusal_in given m ≡ 0
+    → ClosedKept given.rights m (run_in plan_of given c m limit).result.memory
+closed_kept given c m limit ok a w shut = let kept = untouched given c m limit a ok w shut in (kept.word, kept.mark)
 
 pub isolation : Isolation
 isolation =

@@ -1,6 +1,6 @@
 -- Two runs agree (document 01, The run, and document 02, CR 2, CR 3 and CR 5): one claim over every two accepted runs of one core and one limit, with
 -- equal rights and in one edition. It rests on the definitions of the machine and mentions no instruction.
-use Rattle.std.specs.Prelude.{ℕ, ◌≡◌, length, get_or}
+use Rattle.std.specs.Prelude.{ℕ, ◌≡◌, List, length, get_or}
 use Rattle.memory.specs.Log.{Logged}
 use Rattle.memory.specs.Memory.{Memory, was_read, was_written}
 use Rattle.memory.specs.Outcome.{ended}
@@ -70,3 +70,11 @@ PlainAgreement =
     → refusal_in (plain edition) m ≡ 0 → refusal_in (plain edition) m' ≡ 0 → length m.words ≡ length m'.words
     → ((a : ℕ) → was_read (mark_at (run_of plan_of c m edition limit).memory a) ≡ 1 → word_at m a ≡ word_at m' a)
     → Agree m m' (run_of plan_of c m edition limit) (run_of plan_of c m' edition limit)
+
+-- what the agreement says of one run in a setting, which left these marks: every accepted run of the same core and limit agrees with it, if its memory is as
+-- long, and starts equal wherever the marks include 1
+abbrev pub AgreesWithOthers : Setting → Core → Memory → ℕ → List ℕ → Type 0
+AgreesWithOthers given c m limit marks =
+    (m' : Memory) → refusal_in given m ≡ 0 → refusal_in given m' ≡ 0 → length m.words ≡ length m'.words
+    → ((a : ℕ) → was_read (get_or marks a 0) ≡ 1 → word_at m a ≡ word_at m' a)
+    → AgreeLogged m m' (run_in plan_of given c m limit) (run_in plan_of given c m' limit)

@@ -27,6 +27,10 @@ pub record Untouched (m : Memory) (a : ℕ) (r : Logged (Ran Memory)) : Type 0 w
   pub word : word_at r.result.memory a ≡ word_at m a
   pub unnamed : (p : Purpose) → Unnamed p a r.log
 
+-- what such a run leaves of memory: on every page without any right the words of the start, and mark 0
+abbrev pub ClosedKept : Option (List ℕ) → Memory → Memory → Type 0
+ClosedKept rights m m' = (a : ℕ) → a < 2 ^ 16 → Closed rights a → (word_at m' a ≡ word_at m a) × (mark_at m' a ≡ 0)
+
 -- two memories are equal wherever a page has some right
 abbrev pub EqualButClosed : Option (List ℕ) → Memory → Memory → Type 0
 EqualButClosed rights m m' = (a : ℕ) (r : Right) → has_right rights r a ≡ true → word_at m a ≡ word_at m' a
