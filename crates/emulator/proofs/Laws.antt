@@ -2,15 +2,14 @@
 use Rattle.std.specs.Prelude.{◌≡◌, ℕ, ◌≤◌, Bool, false, eqb, List, length, Ok, Err}
 use mathlib.Core.Path.{sym}
 use native.Mathlib.Omega.{arith}
-use Rattle.std.proofs.lemmas.Bool.{true≢false}
-use borrow.Author.Tests.{ltb-false, eqb-true, eqb-false, eq-eqb, ne_eqb}
+use borrow.Author.Tests.{eqb-true, eqb-false, eq-eqb, ne_eqb}
 use Rattle.memory.specs.Memory.{Memory, lent, refused_length, length_test}
 use Rattle.memory.specs.Outcome.{refusal_number}
 use Rattle.execute.specs.Edition.{refused_edition}
 use Rattle.emulator.specs.Machine.{Setting, then_test, refusal_of, refusal_in}
 use Rattle.memory.specs.Rights.{refused_bytes}
 use Rattle.memory.specs.declared.refusal.Refusal.{Refusal}
-use Rattle.memory.proofs.Laws.{length_passes, length_fails}
+use Rattle.memory.proofs.Laws.{length_most, length_passes, length_fails}
 use Rattle.instructions.proofs.Cases.{by_test, if_elim}
 
 module _ (mem ms : List ℕ) where
@@ -60,10 +59,8 @@ accepted_marked m =
 
 -- and no longer than 65,536
 pub accepted_length : (m : Memory) → refusal_of m ≡ 0 → length m.words ≤ 65536
-unfolding refusal_of refused_length
-accepted_length m =
-    if_elim Says (refused_length (length m.words)) (λ _ z. absurd (omega arith))
-    (λ f _. if_elim (λ (b : Bool). b ≡ false → length m.words ≤ 65536) (eqb (length m.words) 0) (λ _ t. absurd (true≢false t)) (λ _ g. ltb-false _ _ g) f)
+unfolding refusal_of
+accepted_length m = if_elim Says (refused_length (length m.words)) (λ _ z. absurd (omega arith)) (λ f _. length_most (length m.words) f)
   where
     Says : ℕ → Type 0
     Says x = x ≡ 0 → length m.words ≤ 65536

@@ -1,14 +1,15 @@
 -- Laws of the loop of turns on any store: one for each way through it, and its invariant.
-use Rattle.std.specs.Prelude.{◌≡◌, ℕ, zero, suc, ◌+◌, ◌-◌, ◌<◌, ◌≤◌, Bool, true, false, List, [], ◌++◌, Some, None}
+use Rattle.std.specs.Prelude.{◌≡◌, ℕ, zero, suc, ◌+◌, ◌-◌, ◌<◌, ◌≤◌, Bool, true, false, List, [], ◌++◌, Some, None, Result, Ok, Err}
 use mathlib.Core.Path.{refl, sym, ap, ◌∙◌}
 use native.Mathlib.Omega.{arith}
 use Rattle.instructions.proofs.Cases.{by_test}
 use Rattle.emulator.specs.Core.{is_halted}
-use Rattle.memory.specs.Log.{Logged, logged, end_by_log}
+use Rattle.memory.specs.Log.{Reply, Logged, logged, end_by_log}
 use Rattle.memory.specs.Outcome.{Outcome, stepped, halted, limit, fault, ended, stop_of, log_end_number}
 use Rattle.memory.specs.Store.{Store}
-use Rattle.emulator.specs.Machine.{Plan, Turn, turn, cycle_of, Ran, ran, next_of, run_until}
+use Rattle.emulator.specs.Machine.{Access, none, load, store, stop, Plan, settle_of, Turn, turn, carry_out, on_fetch, advanced, cycle_of, Ran, ran, next_of, run_until}
 use Rattle.emulator.specs.declared.core_record.Core.{Core}
+use Rattle.memory.specs.declared.log.Purpose.{Purpose}
 use Rattle.memory.specs.declared.refusal.LogEnd.{LogEnd}
 use Rattle.memory.specs.declared.stop.Stop.{Stop}
 use Rattle.memory.specs.declared.stop.Stop.TheVariants as stops
@@ -21,6 +22,26 @@ stop_elim P f (stops.NoRight v) = f _ v
 stop_elim P f (stops.Decimal v) = f _ v
 stop_elim P f (stops.Amount v) = f _ v
 stop_elim P f (stops.Negation v) = f _ v
+
+-- a property of every way that a cycle comes out, on any store: it steps, or it faults
+module _ (P : Outcome → Type 0) (step : P stepped) (faults : (n v : ℕ) → P (fault n v)) where
+  settle_elim : (c : Core) (x : Access) (r : Reply) → P (settle_of c x r).outcome
+  settle_elim c none r = step
+  settle_elim c (load a g up) Reply.done = step
+  settle_elim c (load a g up) (Reply.word b w) = step
+  settle_elim c (load a g up) (Reply.stopped s) = stop_elim P faults s
+  settle_elim c (store a v) Reply.done = step
+  settle_elim c (store a v) (Reply.word b w) = step
+  settle_elim c (store a v) (Reply.stopped s) = stop_elim P faults s
+  settle_elim c (stop s) r = stop_elim P faults s
+
+  pub cycle_elim : {S : Type 0} (on : Store S) (plan : Core → ℕ → Plan) (c : Core) (m : S) → P (cycle_of on plan c m).result.outcome
+  unfolding cycle_of
+  cycle_elim on plan c m = by_answer (on.read m Purpose.Fetch c.ip).answer
+    where
+      by_answer : (r : Result ℕ Stop) → P (on_fetch (λ w. carry_out on (plan (advanced c) w)) c (on.read m Purpose.Fetch c.ip).memory r).result.outcome
+      by_answer (Ok w) = settle_elim (plan (advanced c) w).core (plan (advanced c) w).access _
+      by_answer (Err s) = stop_elim P faults s
 
 -- what the end by the log says of it
 pub ends_by : {over : Bool} {why e : LogEnd} → Some e ≡ end_by_log over why → (over ≡ true) × (e ≡ why)

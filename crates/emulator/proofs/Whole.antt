@@ -1,5 +1,5 @@
 -- Laws of the run, the logged run and the step: by their host tests, and as the turns of the loop.
-use Rattle.std.specs.Prelude.{◌≡◌, ℕ, ◌+◌, List, [], length, replicate, Option, None, Result, Ok, Err}
+use Rattle.std.specs.Prelude.{◌≡◌, ℕ, ◌+◌, List, [], length, replicate, Option, None}
 use mathlib.Core.Path.{refl, sym, ap, ◌∙◌}
 use native.Mathlib.Nat.{zero-add}
 use native.Mathlib.Omega.{arith}
@@ -8,23 +8,21 @@ use Rattle.instructions.proofs.Cases.{by_test, if_elim}
 use Rattle.execute.specs.Edition.{edition_of}
 use Rattle.execute.specs.declared.edition.Edition.{Edition}
 use Rattle.emulator.specs.Core.{is_halted}
-use Rattle.memory.specs.Log.{Reply, Room, Logged, logged, is_full, written, words}
+use Rattle.memory.specs.Log.{Room, Logged, logged, is_full, written, words}
 use Rattle.memory.specs.Memory.{Memory, lent}
-use Rattle.memory.specs.Outcome.{Outcome, stepped, halted, limit, fault, refused, ended, stop_of, refusal_number}
+use Rattle.memory.specs.Outcome.{Outcome, stepped, halted, limit, fault, refused, ended, refusal_number}
 use Rattle.emulator.specs.Answers.{answer_of, end_of, uncounted, answered_of}
 use Rattle.memory.specs.Store.{memory_store}
-use Rattle.emulator.specs.Machine.{Access, none, load, store, stop, Plan, plan_of, settle_of, Turn, turn, on_fetch, advanced, carry_out, cycle_of, refusal_with, refusal_in, unmarked, step_of, Ran, ran, next_of, Setting, plain, unlogged, logging_in, run_until, run_from, RanLogged, ran_logged, in_buffer, run_in}
+use Rattle.emulator.specs.Machine.{Plan, plan_of, Turn, turn, cycle_of, refusal_with, refusal_in, unmarked, step_of, Ran, ran, next_of, Setting, plain, unlogged, logging_in, run_until, run_from, RanLogged, ran_logged, in_buffer, run_in}
 use Rattle.memory.specs.Parts.{Logs}
 use Rattle.emulator.specs.declared.core_record.Answer.{Answer}
 use Rattle.emulator.specs.declared.core_record.Core.{Core}
 use Rattle.emulator.specs.declared.cycle.End.{End}
-use Rattle.memory.specs.declared.log.Purpose.{Purpose}
 use Rattle.memory.specs.declared.refusal.LogEnd.{LogEnd}
 use Rattle.memory.specs.declared.refusal.Refusal.{Refusal}
-use Rattle.memory.specs.declared.stop.Stop.{Stop}
 use Rattle.memory.proofs.Laws.{refuses}
 use Rattle.memory.proofs.Logs.{logs_kept}
-use Rattle.emulator.proofs.Runs.{stop_elim}
+use Rattle.emulator.proofs.Runs.{cycle_elim}
 use Rattle.emulator.proofs.Sizes.{run_fits}
 
 -- what the loop left in memory and in the log stands in what was lent
@@ -80,26 +78,8 @@ module _ (rights : Option (List ℕ)) (n : ℕ) (c : Core) (mem ms : List ℕ) (
 abbrev Settles : Outcome → Type 0
 Settles o = uncounted o ≡ o
 
-stop_settled : (s : Stop) → Settles (stop_of s)
-stop_settled = stop_elim Settles (λ n v. refl)
-
-settle_settled : (c : Core) (x : Access) (r : Reply) → Settles (settle_of c x r).outcome
-settle_settled c none r = refl
-settle_settled c (load a g up) Reply.done = refl
-settle_settled c (load a g up) (Reply.word b w) = refl
-settle_settled c (load a g up) (Reply.stopped s) = stop_settled s
-settle_settled c (store a v) Reply.done = refl
-settle_settled c (store a v) (Reply.word b w) = refl
-settle_settled c (store a v) (Reply.stopped s) = stop_settled s
-settle_settled c (stop s) r = stop_settled s
-
 cycle_settled : (plan : Core → ℕ → Plan) (c : Core) (m : Memory) → Settles (cycle_of (memory_store None) plan c m).result.outcome
-unfolding cycle_of
-cycle_settled plan c m = by_answer ((memory_store None).read m Purpose.Fetch c.ip).answer
-  where
-    by_answer : (r : Result ℕ Stop) → Settles (on_fetch (λ w. carry_out (memory_store None) (plan (advanced c) w)) c ((memory_store None).read m Purpose.Fetch c.ip).memory r).result.outcome
-    by_answer (Ok w) = settle_settled (plan (advanced c) w).core (plan (advanced c) w).access _
-    by_answer (Err s) = stop_settled s
+cycle_settled = cycle_elim Settles refl (λ n v. refl) (memory_store None)
 
 -- what a step answers, of a run of at most one turn
 abbrev answered_by : Ran Memory → Turn Memory

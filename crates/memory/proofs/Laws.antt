@@ -1,6 +1,8 @@
 -- Laws of the host tests that look at one list.
 use Rattle.std.specs.Prelude.{◌≡◌, ℕ, zero, suc, ◌<◌, ◌≤◌, Bool, true, false, ltb, List, [], ◌∷◌, length, get_or, Ok, Err}
-use mathlib.Core.Path.{refl}
+use mathlib.Core.Path.{refl, sym, ◌∙◌}
+use mathlib.Core.Logic.{⊎_elim}
+use Rattle.std.proofs.lemmas.Bool.{cases_lt, true≢false}
 use native.Mathlib.Omega.{arith}
 use borrow.Author.Tests.{lt-ltb, le-ltb, eq-eqb, ne_eqb}
 use Rattle.memory.specs.Memory.{refused_length, length_test}
@@ -21,6 +23,12 @@ length_none n l = let none : n ≡ 0 = omega arith in rw (eq-eqb n 0 none)
 pub length_past : (n : ℕ) → 65537 ≤ n → refused_length n ≡ true
 unfolding refused_length
 length_past n l = rw (ne_eqb n 0 (λ z. omega arith), lt-ltb 65536 n l)
+
+pub length_least : (n : ℕ) → refused_length n ≡ false → 1 ≤ n
+length_least n f = ⊎_elim (λ l. absurd (true≢false (sym (length_none n l) ∙ f))) (λ l. l) (cases_lt n 1)
+
+pub length_most : (n : ℕ) → refused_length n ≡ false → n ≤ 65536
+length_most n f = ⊎_elim (λ l. omega arith) (λ l. absurd (true≢false (sym (length_past n l) ∙ f))) (cases_lt n 65537)
 
 module _ (n : ℕ) where
   pub length_passes : {u : Unit {0}} → Ok u ≡ length_test n → refused_length n ≡ false

@@ -4,26 +4,24 @@ use mathlib.Core.Path.{◌≡◌, refl, sym, ◌∙◌}
 use Rattle.instructions.proofs.Cases.{by_test, if_elim}
 use Rattle.std.proofs.lemmas.Bool.{true≢false}
 use Rattle.execute.specs.Edition.{refused_edition, edition_of}
-use Rattle.memory.specs.Log.{Reply, Logged, logged, Room, written}
+use Rattle.memory.specs.Log.{Logged, logged, Room, written}
 use Rattle.memory.specs.Memory.{Memory, refused_length}
-use Rattle.memory.specs.Outcome.{Outcome, refused, stop_of}
+use Rattle.memory.specs.Outcome.{Outcome, refused}
 use Rattle.memory.specs.Rights.{refused_rights, refused_bytes}
 use Rattle.memory.specs.Store.{Store, memory_store}
-use Rattle.memory.specs.declared.log.Purpose.{Purpose}
 use Rattle.memory.specs.declared.refusal.LogEnd.{LogEnd}
-use Rattle.memory.specs.declared.stop.Stop.{Stop}
 use Rattle.emulator.specs.Core.{new_core, is_halted}
-use Rattle.emulator.specs.Machine.{Access, none, load, store, stop, Plan, plan_of, settle_of, Turn, turn, carry_out, on_fetch, advanced, cycle_of, unmarked, Ran, ran, is_stepped, then_test, refusal_of, refusal_with, Setting, unlogged, logging_in, full_in, run_until, run_from, run_in, ran_logged, in_buffer, step_of}
+use Rattle.emulator.specs.Machine.{Plan, plan_of, Turn, turn, cycle_of, unmarked, Ran, ran, is_stepped, then_test, refusal_of, refusal_with, Setting, unlogged, logging_in, full_in, run_until, run_from, run_in, ran_logged, in_buffer, step_of}
 use Rattle.emulator.specs.declared.core_record.Core.{Core}
-use Rattle.emulator.proofs.Runs.{stop_elim}
+use Rattle.emulator.proofs.Runs.{cycle_elim}
 use Rattle.replay.specs.Replay.{Tape, tape, tape_store, Replayed, replayed, same, replay_refusal, replay_of}
 use Rattle.sheet.specs.Input.{records_of, input_records, put_in, input_of}
 use Rattle.sheet.specs.Load.{Left, left, load_words_of}
 use Rattle.sheet.specs.Write.{Wrote, wrote, sheet_of, write_sheet_of}
 use Rattle.sheet.specs.declared.refusal.SheetRefusal.{SheetRefusal}
 use Rattle.sheet.specs.declared.refusal.SheetRefusal.TheVariants.{Input}
-use Rattle.refusal_laws.specs.Refused.{RefusedBy, refusal_in, refusal_of as answered}
-use Rattle.refusal_laws.specs.Tests.{Test, test, first_failing, rights_tests, edition_test, run_tests, replay_tests, words_tests, write_tests, input_test}
+use Rattle.refusal_laws.specs.Refused.{RefusedBy, outcome_refusal, answer_refusal}
+use Rattle.refusal_laws.specs.Tests.{Test, test, first_failing, rights_tests, known_edition_test, run_tests, replay_tests, words_tests, write_tests, input_test}
 
 -- What a call comes to, x, by what it answers and what it leaves.
 module _ {A B : Type 0} (refusal : A → Option ℕ) (leaves unchanged : A → B) where
@@ -65,14 +63,14 @@ itself x = x
 
 -- a load's refusal, and what it leaves where memory is unchanged
 abbrev load_refusal : Left → Option ℕ
-load_refusal l = answered l.answer
+load_refusal l = answer_refusal l.answer
 
 abbrev with_memory : List ℕ → Left → Left
 with_memory mem l = left l.answer new_core 1 mem
 
 -- a write's refusal, and what it leaves where the buffer is unchanged
 abbrev write_refusal : Wrote → Option ℕ
-write_refusal w = answered w.answer
+write_refusal w = answer_refusal w.answer
 
 abbrev with_buffer : List ℕ → Wrote → Wrote
 with_buffer buffer w = wrote w.answer buffer
@@ -80,7 +78,7 @@ with_buffer buffer w = wrote w.answer buffer
 -- a word list: 1, then 3
 pub load_words : (words mem : List ℕ)
     → let l = load_words_of words mem in
-    RefusedBy (words_tests words (length mem)) (answered l.answer) l (left l.answer new_core 1 mem)
+    RefusedBy (words_tests words (length mem)) (answer_refusal l.answer) l (left l.answer new_core 1 mem)
 unfolding load_words_of
 load_words words mem =
     one_test load_refusal itself (with_memory mem) 1 (refused_length (length mem)) refl refl
@@ -90,7 +88,7 @@ load_words words mem =
 -- the writer: 1, then 34, then 4
 pub write_sheet : (c : Core) (edition : ℕ) (mem sheet : List ℕ)
     → let w = write_sheet_of c edition mem sheet in
-    RefusedBy (write_tests c edition mem (length sheet)) (answered w.answer) w (wrote w.answer sheet)
+    RefusedBy (write_tests c edition mem (length sheet)) (answer_refusal w.answer) w (wrote w.answer sheet)
 unfolding write_sheet_of
 write_sheet c edition mem sheet =
     one_test write_refusal itself (with_buffer sheet) 1 (refused_length (length mem)) refl refl
@@ -107,7 +105,7 @@ by_one_test input = by_test (eqb (length input % 4) 0) (λ e. rw e refl) (λ e. 
 -- the reader of an input: 27
 pub records : (input out : List ℕ)
     → let w = input_of input out in
-    RefusedBy (input_test input ∷ []) (answered w.answer) w (wrote w.answer out)
+    RefusedBy (input_test input ∷ []) (answer_refusal w.answer) w (wrote w.answer out)
 records input out =
     rw (by_one_test input)
     (one_test puts_refusal puts (λ r. with_buffer out (puts r)) 27 (not (eqb (length input % 4) 0) || ltb 32768 (length input)) refl refl
@@ -131,12 +129,12 @@ next_number k n false rest e = refl
 
 -- the tests of rights and edition after them
 last_number : (rights : Option (List ℕ)) (edition k : ℕ)
-    → (if eqb k 0 then first_failing (rights_tests rights ++ edition_test edition ∷ []) else Some k)
+    → (if eqb k 0 then first_failing (rights_tests rights ++ known_edition_test edition ∷ []) else Some k)
     ≡ (let j = then_test (then_test k (refused_bytes rights) 32) (refused_edition edition) 34 in if eqb j 0 then None else Some j)
 unfolding first_failing
 last_number None edition k = next_number k 34 (refused_edition edition) [] refl
 last_number (Some bytes) edition k =
-    next_number k 32 (refused_rights bytes) (edition_test edition ∷ []) refl
+    next_number k 32 (refused_rights bytes) (known_edition_test edition ∷ []) refl
     ∙ next_number (then_test k (refused_rights bytes) 32) 34 (refused_edition edition) [] refl
 
 -- all tests of a run
@@ -161,35 +159,11 @@ replay_number rights edition size =
 
 -- What its tests accept isn't refused later: a cycle steps or faults, and a run ends by halt, by the limit, by its log or by a fault.
 abbrev Accepted : Outcome → Type 0
-Accepted o = refusal_in o ≡ None
-
--- a fault isn't a refusal
-stop_accepted : (s : Stop) → Accepted (stop_of s)
-stop_accepted = stop_elim Accepted (λ n v. refl)
-
--- nor is what an access comes to
-settle_accepted : (c : Core) (x : Access) (r : Reply) → Accepted (settle_of c x r).outcome
-settle_accepted c none r = refl
-settle_accepted c (load a g up) Reply.done = refl
-settle_accepted c (load a g up) (Reply.word b w) = refl
-settle_accepted c (load a g up) (Reply.stopped s) = stop_accepted s
-settle_accepted c (store a v) Reply.done = refl
-settle_accepted c (store a v) (Reply.word b w) = refl
-settle_accepted c (store a v) (Reply.stopped s) = stop_accepted s
-settle_accepted c (stop s) r = stop_accepted s
+Accepted o = outcome_refusal o ≡ None
 
 module _ {S : Type 0} (on : Store S) (plan : Core → ℕ → Plan) where
-  -- nor is a cycle's outcome, over any store
   cycle_accepted : (c : Core) (m : S) → Accepted (cycle_of on plan c m).result.outcome
-  unfolding cycle_of
-  cycle_accepted c m = by_answer (on.read m Purpose.Fetch c.ip).answer
-    where
-      after : Result ℕ Stop → Logged (Turn S)
-      after = on_fetch (λ w. carry_out on (plan (advanced c) w)) c (on.read m Purpose.Fetch c.ip).memory
-
-      by_answer : (r : Result ℕ Stop) → Accepted (after r).result.outcome
-      by_answer (Ok w) = settle_accepted (plan (advanced c) w).core (plan (advanced c) w).access _
-      by_answer (Err s) = stop_accepted s
+  cycle_accepted = cycle_elim Accepted refl (λ n v. refl) on plan
 
   abbrev EndAccepted : Logged (Ran S) → Type 0
   EndAccepted r = Accepted r.result.end
@@ -214,7 +188,7 @@ module _ {S : Type 0} (on : Store S) (plan : Core → ℕ → Plan) where
 -- a step is refused, or of a halted core, or a cycle
 pub step : (c : Core) (m : Memory) (edition : ℕ)
     → let t = step_of plan_of c m edition in
-    RefusedBy (run_tests None edition m) (refusal_in t.outcome) t (turn t.outcome c m)
+    RefusedBy (run_tests None edition m) (outcome_refusal t.outcome) t (turn t.outcome c m)
 unfolding step_of
 step c m edition =
     by_number step_refusal itself (λ t. turn t.outcome c m) (run_tests None edition m) (refusal_with None edition m) (run_number None edition m)
@@ -223,41 +197,41 @@ step c m edition =
     refl refl
   where
     step_refusal : Turn Memory → Option ℕ
-    step_refusal t = refusal_in t.outcome
+    step_refusal t = outcome_refusal t.outcome
 
 -- a run in any setting, seen through what it leaves, where that is unchanged of a refused run
 module _ {A : Type 0} (leaves unchanged : Logged (Ran Memory) → A) (c : Core) (m : Memory)
     (kept : (n : ℕ) → let r = logged (ran (refused n) 0 c m) [] in leaves r ≡ unchanged r) where
   any_run : (given : Setting) (up_to : ℕ)
       → let r = run_in plan_of given c m up_to in
-      RefusedBy (run_tests given.rights given.edition m) (refusal_in r.result.end) (leaves r) (unchanged r)
+      RefusedBy (run_tests given.rights given.edition m) (outcome_refusal r.result.end) (leaves r) (unchanged r)
   unfolding run_in
   any_run given up_to =
       let k = refusal_with given.rights given.edition m in
-      by_number (λ r. refusal_in r.result.end) leaves unchanged (run_tests given.rights given.edition m) k (run_number given.rights given.edition m)
+      by_number (λ r. outcome_refusal r.result.end) leaves unchanged (run_tests given.rights given.edition m) k (run_number given.rights given.edition m)
       (turns_accepted (memory_store given.rights) (plan_of (edition_of given.edition)) (full_in given.room) LogEnd.Full up_to 0 c (unmarked m) [])
       refl (kept k)
 
 -- a run without a log
 pub plain_run : (c : Core) (m : Memory) (rights : Option (List ℕ)) (edition up_to : ℕ)
     → let r = (run_in plan_of (unlogged rights edition) c m up_to).result in
-    RefusedBy (run_tests rights edition m) (refusal_in r.end) r (ran r.end 0 c m)
+    RefusedBy (run_tests rights edition m) (outcome_refusal r.end) r (ran r.end 0 c m)
 plain_run c m rights edition up_to = any_run (λ r. r.result) (λ r. ran r.result.end 0 c m) c m (λ n. refl) (unlogged rights edition) up_to
 
 -- and with one
 pub logged_run : (c : Core) (m : Memory) (rights : Option (List ℕ)) (edition up_to : ℕ) (log : List ℕ)
     → let r = in_buffer log (run_in plan_of (logging_in log rights edition) c m up_to) in
-    RefusedBy (run_tests rights edition m) (refusal_in r.run.end) r (ran_logged (ran r.run.end 0 c m) (written 0 log))
+    RefusedBy (run_tests rights edition m) (outcome_refusal r.run.end) r (ran_logged (ran r.run.end 0 c m) (written 0 log))
 logged_run c m rights edition up_to log =
     any_run (in_buffer log) (λ r. ran_logged (ran r.result.end 0 c m) (written 0 log)) c m (λ n. refl) (logging_in log rights edition) up_to
 
 -- a replay that its tests accept ends as its run, or by 31
 pub replay : (rights : Option (List ℕ)) (edition : ℕ) (c : Core) (size up_to : ℕ) (log : List ℕ)
     → let r = replay_of plan_of rights edition c size up_to log in
-    RefusedBy (replay_tests rights edition size) (refusal_in r.end) r (replayed r.end 0 c)
+    RefusedBy (replay_tests rights edition size) (outcome_refusal r.end) r (replayed r.end 0 c)
 unfolding replay_of
 replay rights edition c size up_to log =
-    by_number (λ r. refusal_in r.end) itself (λ r. replayed r.end 0 c) (replay_tests rights edition size) (replay_refusal rights edition size)
+    by_number (λ r. outcome_refusal r.end) itself (λ r. replayed r.end 0 c) (replay_tests rights edition size) (replay_refusal rights edition size)
     (replay_number rights edition size)
     (if_elim (λ (r : Replayed). Accepted r.end) (same turns.log log) (λ _. accepted) (λ _. refl))
     refl refl

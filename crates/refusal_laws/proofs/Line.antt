@@ -19,7 +19,7 @@ use Rattle.sheet.specs.declared.fields.Record.{Record}
 use Rattle.sheet.specs.declared.fields.Record.TheVariants.{Place, Word, Preset, Edition, End}
 use Rattle.sheet.specs.declared.refusal.SheetRefusal.{SheetRefusal}
 use Rattle.line.specs.Line.{row, refused_line as refusal_line, end_line, loaded_line, left_line, sheet_line, line_of}
-use Rattle.refusal_laws.specs.Refused.{refusal_in as refusal_told, refusal_of, RefusedLine}
+use Rattle.refusal_laws.specs.Refused.{outcome_refusal, answer_refusal, RefusedLine}
 use Rattle.refusal_laws.specs.Tests.{first_failing, sheet_tests, program_tests}
 use Rattle.refusal_laws.proofs.Calls.{plain_run, run_number}
 use Rattle.refusal_laws.proofs.Sheets.{load_sheet_refused}
@@ -104,7 +104,7 @@ load_runnable sheet mem =
 
 -- A run whose host tests pass doesn't end as refused.
 abbrev Unrefused : Outcome → Type 0
-Unrefused o = refusal_told o ≡ None
+Unrefused o = outcome_refusal o ≡ None
 
 run_unrefused : (c : Core) (m : Memory) (ed most : ℕ) → refusal_in (plain ed) m ≡ 0 → Unrefused (run_of plan_of c m ed most).end
 run_unrefused c m ed most ok = (plain_run c m None ed most).number ∙ (run_number None ed m ∙ (rw ok refl))
@@ -141,7 +141,7 @@ run_accepted words marks ed s m k =
 
 -- the line of a load by its answer, where what it leaves can be run
 answer_tells : (x : Result (Unit {0}) SheetRefusal) (c : Core) (ed : ℕ) (words : List ℕ) → length words ≡ 32768 → Known ed
-    → Tells (refusal_of x) (loaded_line x c ed words)
+    → Tells (answer_refusal x) (loaded_line x c ed words)
 answer_tells (Ok u) c ed words s k =
     let zeros : List ℕ = replicate 32768 0 in
     end_tells _ _ _ (run_unrefused c (lent words zeros) ed 1000000 (run_accepted words zeros ed s (length-replicate {A = ℕ} 32768 0) k))

@@ -13,7 +13,7 @@ use Rattle.sheet.specs.Record.{kind, above16, above20, register, low, count, rec
 use Rattle.sheet.specs.Refusal.{sheet_refusal_number}
 use Rattle.sheet.specs.Load.{Reading, every_record, read_from, sheet_reads, settled, left, load_sheet_of}
 use Rattle.refusal_laws.specs.Tests.{Test, test, first_failing, each_record_tests, has_end, sheet_tests}
-use Rattle.refusal_laws.specs.Refused.{RefusedBy, refusal_of}
+use Rattle.refusal_laws.specs.Refused.{RefusedBy, answer_refusal}
 
 -- the number of the test that a sheet fails, if it fails one
 abbrev number_of : Reading → Option ℕ
@@ -108,14 +108,14 @@ records_fail size (w ∷ ws) = fails_more size w ws (records_fail size ws)
 
 -- what is left of a sheet that is read: all as it was, if it fails a test
 settled_by : (mem : List ℕ) (tests : List Test) (x : Reading) → number_of x ≡ first_failing tests
-    → RefusedBy tests (refusal_of (settled mem x).answer) (settled mem x) (left (settled mem x).answer new_core 1 mem)
+    → RefusedBy tests (answer_refusal (settled mem x).answer) (settled mem x) (left (settled mem x).answer new_core 1 mem)
 settled_by mem tests (Reading.gives c ed mem') e = record { number = e; kept = λ some. let no = some in cc }
 settled_by mem tests (Reading.fails k) e = record { number = e; kept = λ some. refl }
 
 -- the load: memory's length is tested first
 pub load_sheet_refused : (sheet mem : List ℕ)
     → let l = load_sheet_of sheet mem in
-    RefusedBy (sheet_tests sheet (length mem)) (refusal_of l.answer) l (left l.answer new_core 1 mem)
+    RefusedBy (sheet_tests sheet (length mem)) (answer_refusal l.answer) l (left l.answer new_core 1 mem)
 unfolding load_sheet_of first_failing
 load_sheet_refused sheet mem =
     by_test (refused_length (length mem))

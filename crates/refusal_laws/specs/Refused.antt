@@ -23,53 +23,53 @@ pub record RefusedBy {A : Type 0} (tests : List Test) (refusal : Option ℕ) (le
   pub kept : IsSome refusal → leaves ≡ unchanged
 
 -- the number of a refusal, if an outcome or an answer is one
-abbrev pub refusal_in : Outcome → Option ℕ
-refusal_in outcome.stepped = None
-refusal_in outcome.halted = None
-refusal_in outcome.limit = None
-refusal_in (outcome.fault n v) = None
-refusal_in (outcome.refused n) = Some n
-refusal_in (outcome.ended n) = None
+abbrev pub outcome_refusal : Outcome → Option ℕ
+outcome_refusal outcome.stepped = None
+outcome_refusal outcome.halted = None
+outcome_refusal outcome.limit = None
+outcome_refusal (outcome.fault n v) = None
+outcome_refusal (outcome.refused n) = Some n
+outcome_refusal (outcome.ended n) = None
 
-abbrev pub refusal_of : {A : Type 0} → Result A SheetRefusal → Option ℕ
-refusal_of (Ok x) = None
-refusal_of (Err r) = Some (sheet_refusal_number r)
+abbrev pub answer_refusal : {A : Type 0} → Result A SheetRefusal → Option ℕ
+answer_refusal (Ok x) = None
+answer_refusal (Err r) = Some (sheet_refusal_number r)
 
 -- every call that can be refused, whatever it is given
 pub record Refused : Type 0 where
   -- a step, a run and a replay hand back the core, memory and marks, 0 steps and the log's buffer
   pub step : (c : Core) (m : Memory) (edition : ℕ)
       → let t = step_of plan_of c m edition in
-      RefusedBy (run_tests None edition m) (refusal_in t.outcome) t (turn t.outcome c m)
+      RefusedBy (run_tests None edition m) (outcome_refusal t.outcome) t (turn t.outcome c m)
   pub run : (c : Core) (m : Memory) (edition limit : ℕ)
       → let r = run_of plan_of c m edition limit in
-      RefusedBy (run_tests None edition m) (refusal_in r.end) r (ran r.end 0 c m)
+      RefusedBy (run_tests None edition m) (outcome_refusal r.end) r (ran r.end 0 c m)
   pub run_guarded : (c : Core) (m : Memory) (rights : List ℕ) (edition limit : ℕ)
       → let r = run_guarded_of plan_of c m rights edition limit in
-      RefusedBy (run_tests (Some rights) edition m) (refusal_in r.end) r (ran r.end 0 c m)
+      RefusedBy (run_tests (Some rights) edition m) (outcome_refusal r.end) r (ran r.end 0 c m)
   pub run_logged : (c : Core) (m : Memory) (edition limit : ℕ) (log : List ℕ)
       → let r = run_logged_of plan_of c m edition limit log in
-      RefusedBy (run_tests None edition m) (refusal_in r.run.end) r (ran_logged (ran r.run.end 0 c m) (written 0 log))
+      RefusedBy (run_tests None edition m) (outcome_refusal r.run.end) r (ran_logged (ran r.run.end 0 c m) (written 0 log))
   pub run_logged_guarded : (c : Core) (m : Memory) (rights : List ℕ) (edition limit : ℕ) (log : List ℕ)
       → let r = run_logged_guarded_of plan_of c m rights edition limit log in
-      RefusedBy (run_tests (Some rights) edition m) (refusal_in r.run.end) r (ran_logged (ran r.run.end 0 c m) (written 0 log))
+      RefusedBy (run_tests (Some rights) edition m) (outcome_refusal r.run.end) r (ran_logged (ran r.run.end 0 c m) (written 0 log))
   pub replay : (rights : Option (List ℕ)) (edition : ℕ) (c : Core) (size limit : ℕ) (log : List ℕ)
       → let r = replay_of plan_of rights edition c size limit log in
-      RefusedBy (replay_tests rights edition size) (refusal_in r.end) r (replayed r.end 0 c)
+      RefusedBy (replay_tests rights edition size) (outcome_refusal r.end) r (replayed r.end 0 c)
   -- a load leaves memory, and hands back a fresh core and edition 1
   pub load_words : (words mem : List ℕ)
       → let l = load_words_of words mem in
-      RefusedBy (words_tests words (length mem)) (refusal_of l.answer) l (left l.answer new_core 1 mem)
+      RefusedBy (words_tests words (length mem)) (answer_refusal l.answer) l (left l.answer new_core 1 mem)
   pub load_sheet : (sheet mem : List ℕ)
       → let l = load_sheet_of sheet mem in
-      RefusedBy (sheet_tests sheet (length mem)) (refusal_of l.answer) l (left l.answer new_core 1 mem)
+      RefusedBy (sheet_tests sheet (length mem)) (answer_refusal l.answer) l (left l.answer new_core 1 mem)
   -- the writer, and the reader of an input, leave the buffer
   pub write_sheet : (c : Core) (edition : ℕ) (mem sheet : List ℕ)
       → let w = write_sheet_of c edition mem sheet in
-      RefusedBy (write_tests c edition mem (length sheet)) (refusal_of w.answer) w (wrote w.answer sheet)
+      RefusedBy (write_tests c edition mem (length sheet)) (answer_refusal w.answer) w (wrote w.answer sheet)
   pub records : (input out : List ℕ)
       → let w = input_of input out in
-      RefusedBy (input_test input ∷ []) (refusal_of w.answer) w (wrote w.answer out)
+      RefusedBy (input_test input ∷ []) (answer_refusal w.answer) w (wrote w.answer out)
 
 -- the program prints `refused` and that number, exactly where one of its tests fails
 pub record RefusedLine : Type 0 where

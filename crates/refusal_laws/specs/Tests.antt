@@ -34,15 +34,15 @@ rights_tests None = []
 rights_tests (Some bytes) = test 32 (refused_rights bytes) ∷ []
 
 -- the edition is 1 or 2
-abbrev pub edition_test : ℕ → Test
-edition_test edition = test 34 (refused_edition edition)
+abbrev pub known_edition_test : ℕ → Test
+known_edition_test edition = test 34 (refused_edition edition)
 
 -- a step or a run; a replay
 abbrev pub run_tests : Option (List ℕ) → ℕ → Memory → List Test
-run_tests rights edition m = memory_test (length m.words) ∷ marks_test m ∷ (rights_tests rights ++ edition_test edition ∷ [])
+run_tests rights edition m = memory_test (length m.words) ∷ marks_test m ∷ (rights_tests rights ++ known_edition_test edition ∷ [])
 
 abbrev pub replay_tests : Option (List ℕ) → ℕ → ℕ → List Test
-replay_tests rights edition size = memory_test size ∷ (rights_tests rights ++ edition_test edition ∷ [])
+replay_tests rights edition size = memory_test size ∷ (rights_tests rights ++ known_edition_test edition ∷ [])
 
 -- a word list, which is not longer than memory
 abbrev pub words_tests : List ℕ → ℕ → List Test
@@ -51,7 +51,7 @@ words_tests words size = memory_test size ∷ test 3 (nat_lt size (length words)
 -- the writer, whose buffer has room for the sheet
 abbrev pub write_tests : Core → ℕ → List ℕ → ℕ → List Test
 write_tests c edition mem room =
-    memory_test (length mem) ∷ edition_test edition ∷ test 4 (nat_lt room (length (sheet_of c edition mem))) ∷ []
+    memory_test (length mem) ∷ known_edition_test edition ∷ test 4 (nat_lt room (length (sheet_of c edition mem))) ∷ []
 
 -- What the sheet's author wrote.
 

@@ -3,7 +3,8 @@
 
 ghost use Rattle.refusal_laws.specs.Refused.{Refused, RefusedLine};
 
-/// A call is refused by the first of its tests that fails, exactly where one fails, and then every word and byte that it was lent keeps its value.
+/// A call is refused by the first of its tests that fails, exactly where one fails; then every word and byte that it was lent keeps its value, and it hands
+/// back the core that it was given, a load a fresh one and edition 1. The line of `berth` tells the same number.
 #[tactic(auto, using(crate::proofs::Refused::refused, crate::proofs::Line::refused_line))]
 pub fn first_failing_test_refuses()
     ensures calls { Refused }
