@@ -7,11 +7,11 @@ ghost use Rattle.execute_laws.specs.Words.{Words};
 /// An instruction that sees 16-bit words leaves 16-bit words.
 #[tactic(auto, using(crate::proofs::Words::words))]
 pub fn words_stay_words()
-    ensures { Words }
+    ensures words { Words }
 {}
 
 /// The editions differ in the stops 13 and 14 alone: where edition 1 makes neither, edition 2 has the same effect, and edition 2 makes neither.
 #[tactic(auto, using(crate::proofs::Editions::editions))]
 pub fn editions_differ_by_stops()
-    ensures { Editions }
+    ensures editions { Editions }
 {}

@@ -274,5 +274,5 @@ pub fn instruction(kind: u8, first: u8, second: u8) -> Option<Instruction>
 /// The numbers that a decoded instruction is given encode to its word.
 #[tactic(auto, using(crate::proofs::Laws::numbers_encode))]
 pub fn numbers_name_instructions()
-    ensures { NumbersEncode }
+    ensures numbers { NumbersEncode }
 {}

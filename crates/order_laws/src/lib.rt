@@ -17,8 +17,8 @@ pub fn equal_lists_are_alike()
     ensures load_alike { LoadAlike }
 {}
 
-/// Two lists are compared at the first place where they differ, and the part handed back begins with the smaller word there.
+/// Two lists are compared at the first place where they differ, and the part handed back, if it has a word, begins with the smaller one there.
 #[tactic(auto, using(crate::proofs::Claims::first_difference))]
 pub fn first_difference_decides()
-    ensures { FirstDifference }
+    ensures first_difference { FirstDifference }
 {}

@@ -6,5 +6,5 @@ ghost use Rattle.replay_laws.specs.Replay.{ReplayIsRun};
 /// The replay of an accepted run's log gives the run's end, steps and registers, unless the run ended because its log was full.
 #[tactic(auto, using(crate::proofs::Replay::replay_is_run))]
 pub fn replays_are_runs()
-    ensures { ReplayIsRun }
+    ensures replay { ReplayIsRun }
 {}

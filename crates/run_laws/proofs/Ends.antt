@@ -231,6 +231,20 @@ halted_run given c m most ok h =
     (accepted_run plan_of given c m most ok
     ∙ run_halted (memory_store given.rights) (plan_of (edition_of given.edition)) (full_in given.room) Full c (unmarked m) 0 [] most h)
 
+-- a run that its log ends, ends by 30
+pub ended_full : (given : Setting) (c : Core) (m : Memory) (most n : ℕ) → (run_in plan_of given c m most).result.end ≡ ended n
+    → (run_in plan_of given c m most).result.end ≡ ended 30
+ended_full given c m most n =
+    run_in_by (λ (r : Logged (Ran Memory)). r.result.end ≡ ended n → r.result.end ≡ ended 30) plan_of given c m most
+    (how_full (turns_end given most 0 c (unmarked m) []).how)
+    (λ e. clash (cc))
+  where
+    how_full : {o : Outcome} {h : Bool} {k : ℕ} → How o h k → o ≡ ended n → o ≡ ended 30
+    how_full by_halt e = clash (cc)
+    how_full by_limit e = clash (cc)
+    how_full by_fault e = clash (cc)
+    how_full by_log e = refl
+
 pub limit_means : LimitMeans
 limit_means =
     record {

@@ -168,16 +168,15 @@ module _ (given : Setting) (c : Core) (m : Memory) (limit a : ℕ) (ok : refusal
       (accepted_length m (with_accepted given m ok))).1
       (unnamed_none p a))
 
-  untouched : a < 2 ^ 16 → Closed given.rights a → Untouched m a run
-  untouched w shut =
+  kept : Closed given.rights a → (word_at run.result.memory a ≡ word_at m a) × (mark_at run.result.memory a ≡ 0)
+  kept shut =
       let read = unread (shut Right.Read) (shut Right.Execute) in
       let written = (unwritten (shut Right.Write)).1 in
       let others = (run_keeps plan_of given c m limit ok).others a ∙ ap (λ (x : ℕ). x / 4) no_mark in
-      record {
-        mark = omega arith;
-        word = (unwritten (shut Right.Write)).0;
-        unnamed = λ p. unnamed p w (shut (right_of p));
-      }
+      ((unwritten (shut Right.Write)).0, omega arith)
+
+  untouched : a < 2 ^ 16 → Closed given.rights a → Untouched m a run
+  untouched w shut = record { mark = (kept shut).1; word = (kept shut).0; unnamed = λ p. unnamed p w (shut (right_of p)) }
 
 -- Two accepted runs whose memories differ only on pages without any right.
 module _ (given : Setting) (c : Core) (m m' : Memory) (limit : ℕ) (ok : refusal_in given m ≡ 0) (ok' : refusal_in given m' ≡ 0)
@@ -206,7 +205,7 @@ module _ (given : Setting) (c : Core) (m m' : Memory) (limit : ℕ) (ok : refusa
 
 pub closed_kept : (given : Setting) (c : Core) (m : Memory) (limit : ℕ) → refusal_in given m ≡ 0
     → ClosedKept given.rights m (run_in plan_of given c m limit).result.memory
-closed_kept given c m limit ok a w shut = let kept = untouched given c m limit a ok w shut in (kept.word, kept.mark)
+closed_kept given c m limit ok a = kept given c m limit a ok
 
 pub isolation : Isolation
 isolation =

@@ -71,8 +71,8 @@ PlainAgreement =
     → ((a : ℕ) → was_read (mark_at (run_of plan_of c m edition limit).memory a) ≡ 1 → word_at m a ≡ word_at m' a)
     → Agree m m' (run_of plan_of c m edition limit) (run_of plan_of c m' edition limit)
 
--- what the agreement says of one run in a setting, which left these marks: every accepted run of the same core and limit agrees with it, if its memory is as
--- long, and starts equal wherever the marks include 1
+-- what the agreement says of one run in a setting, which left these marks: every accepted run of the same core and limit in the same setting
+-- agrees with it, if its memory is as long, and starts equal wherever the marks include 1
 abbrev pub AgreesWithOthers : Setting → Core → Memory → ℕ → List ℕ → Type 0
 AgreesWithOthers given c m limit marks =
     (m' : Memory) → refusal_in given m ≡ 0 → refusal_in given m' ≡ 0 → length m.words ≡ length m'.words

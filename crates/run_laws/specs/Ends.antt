@@ -28,7 +28,7 @@ pub record LimitMeans : Type 0 where
       → let r = run_to given c m limit in (r.end ≡ outcome.halted) ↔ (is_halted r.core ≡ true)
   pub already : (given : Setting) (c : Core) (m : Memory) (limit : ℕ) → refusal_in given m ≡ 0 → is_halted c ≡ true
       → run_to given c m limit ≡ ran outcome.halted 0 c (unmarked m)
-  -- a step that faults isn't counted: the steps that are counted are those of the run that ends by the limit before it
+  -- a step that faults isn't counted: with the steps that it counted as its limit the run ends by the limit, and the next turn is the fault
   pub fault : (given : Setting) (c : Core) (m : Memory) (limit n v : ℕ) → refusal_in given m ≡ 0
       → let r = run_to given c m limit in let before = run_to given c m r.steps in r.end ≡ outcome.fault n v
       → (before.end ≡ outcome.limit) × (before.steps ≡ r.steps) × (turn_after given before ≡ turn r.end r.core r.memory)

@@ -29,7 +29,7 @@ pub record Untouched (m : Memory) (a : ℕ) (r : Logged (Ran Memory)) : Type 0 w
 
 -- what such a run leaves of memory: on every page without any right the words of the start, and mark 0
 abbrev pub ClosedKept : Option (List ℕ) → Memory → Memory → Type 0
-ClosedKept rights m m' = (a : ℕ) → a < 2 ^ 16 → Closed rights a → (word_at m' a ≡ word_at m a) × (mark_at m' a ≡ 0)
+ClosedKept rights m m' = (a : ℕ) → Closed rights a → (word_at m' a ≡ word_at m a) × (mark_at m' a ≡ 0)
 
 -- two memories are equal wherever a page has some right
 abbrev pub EqualButClosed : Option (List ℕ) → Memory → Memory → Type 0

@@ -10,7 +10,8 @@ ghost use Rattle.run_laws.specs.Rights.{Isolation, SevensArePlain};
 ghost use Rattle.run_laws.specs.Rows.{Rows};
 
 /// Office and quay agree: two accepted runs of the same core, limit, length, rights and edition, whose memories start equal wherever the first run's
-/// final mark includes 1, have the same end, steps, registers, marks, written words and log.
+/// final mark includes 1, have the same end, steps, registers, marks, written words and log, if both log with equal room, or neither logs, or neither
+/// ends because its log is full.
 #[tactic(auto, using(crate::proofs::Agreement::agreement, crate::proofs::Agreement::plain_agreement))]
 pub fn runs_agree()
     ensures logged { Agreement }
@@ -24,7 +25,7 @@ pub fn rights_isolate_pages()
     ensures sevens { SevensArePlain }
 {}
 
-/// A log changes no run but where it is full, and has two words for each read; room for four words a step always suffices.
+/// A log changes no run but where it is full, and has two words for each read; room for four words a step of the limit always suffices.
 #[tactic(auto, using(crate::proofs::Logs::logged_is_plain, crate::proofs::Logs::full_is_plain, crate::proofs::Logs::log_size, crate::proofs::Ends::four_words_suffice))]
 pub fn logs_change_no_run()
     ensures logged { LoggedIsPlain }
@@ -40,20 +41,21 @@ pub fn runs_are_steps()
     ensures keeping { Keeping }
 {}
 
-/// A run ends by its limit exactly where it counted as many steps and isn't halted, halted exactly where halt is set; a step that faults isn't counted.
+/// An accepted run ends by its limit exactly where it counted as many steps and isn't halted, and halted exactly where halt is set; a step that
+/// faults isn't counted.
 #[tactic(auto, using(crate::proofs::Ends::limit_means))]
-pub fn limits_count_steps()
-    ensures { LimitMeans }
+pub fn limit_and_halt_end_runs()
+    ensures ends { LimitMeans }
 {}
 
 /// A run in edition 1 that ends by neither of the stops 13 and 14 is the run in edition 2, and no run in edition 2 ends by one.
 #[tactic(auto, using(crate::proofs::Editions::run_editions))]
 pub fn editions_differ_by_stops()
-    ensures { Editions }
+    ensures editions { Editions }
 {}
 
-/// The words that a planner would recognise, computed.
+/// The twelve rows of words that a planner would recognise come out as listed, and edition 2 goes on where rows 9 and 10 stop.
 #[tactic(auto, using(crate::proofs::Rows::rows))]
-pub fn known_words_run_as_listed()
-    ensures { Rows }
+pub fn known_words_do_as_listed()
+    ensures rows { Rows }
 {}

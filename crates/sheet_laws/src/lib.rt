@@ -13,7 +13,7 @@ pub fn written_sheets_load_back()
     ensures size { SheetFits }
 {}
 
-/// A sheet that lost one of its records is refused: its last record is the end, and counts those before it.
+/// A sheet that passes is refused without any one of its records: its last record is the end, and counts those before it.
 #[tactic(auto, using(crate::proofs::LeftOut::end_counts, crate::proofs::LeftOut::left_out, crate::proofs::Written::left_out_of_written))]
 pub fn lost_records_are_refused()
     ensures end_counts { EndCounts }
@@ -21,8 +21,9 @@ pub fn lost_records_are_refused()
     ensures left_out_of_written { LeftOutOfWritten }
 {}
 
-/// What becomes of the sheets whose ends counted words alone.
+/// Of sheets whose end counted words alone: those of words and an end give what they gave, no other that passed passes, and each that passed gives what it
+/// gave once its end is redone.
 #[tactic(auto, using(crate::proofs::WordRecords::both_rules))]
 pub fn old_sheets_want_new_ends()
-    ensures { BothRules }
+    ensures both_rules { BothRules }
 {}
