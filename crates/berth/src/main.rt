@@ -28,10 +28,10 @@ fn read_full<R: Read>(reader: &mut R, buf: &mut [u8]) -> io::Result<usize>
     Ok(done)
 }
 
-/// Reads the whole input and writes its line. Where it succeeds, the reader's bytes, if they are known, are the input, and the writer gets its line
-/// and nothing else; an error of the reader or the writer is handed on.
+/// Writes the line of the whole input, of which it reads at most one byte more than may be accepted. Where it succeeds, the writer has got that line and
+/// nothing else, if the reader's bytes are known; an error of the reader or the writer is handed on.
 pub fn run<R: Read, W: Write>(reader: &mut R, writer: &mut W) -> io::Result<()>
-    ensures { OnOk result (IfSome (R.remaining reader.old)
+    ensures line { OnOk result (IfSome (R.remaining reader.old)
         (λ input. Appends (W.contents writer.old) (W.contents writer.new) (line_of input))) }
 {
     // One byte more than the longest input that is accepted tells that there are too many.

@@ -42,7 +42,9 @@ written (Some input) old new text same added = subst (Appends old new) same adde
 pub returns : goal.returns
 returns g c =
     let read = c.in_ok-read.ensures in
-    let line = same_line _ _ _ read.bytes (λ below. read.full_or_end (omega (arith, read.bound.1))) in
-    on_ok_weaker c.write_all.result
-    (λ added. written _ _ _ _ line (subst (Appends _ _) (c.as_slice.ensures.value ∙ c.line_of.ensures.line) added))
-    c.write_all.ensures.bytes
+    let same = same_line _ _ _ read.bytes (λ below. read.full_or_end (omega (arith, read.bound.1))) in
+    record {
+      line = on_ok_weaker c.write_all.result
+          (λ added. written _ _ _ _ same (subst (Appends _ _) (c.as_slice.ensures.value ∙ c.line_of.ensures.line) added))
+          c.write_all.ensures.bytes;
+    }
