@@ -1,1 +1,2 @@
 pub mod CoreWords
+pub mod Refusal

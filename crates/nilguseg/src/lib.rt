@@ -2,9 +2,10 @@
 // stand on it.
 #![tactic(auto)]
 
-ghost use Rattle.std.specs.Prelude.{◌≡◌, [], ◌∷◌};
+ghost use Rattle.std.specs.Prelude.{◌≡◌, ◌/◌, ◌^◌, [], ◌∷◌};
 ghost use Rattle.emulator.specs.Answers.{answer_of, end_of};
 ghost use Rattle.nilguseg.specs.Host.{words_of, call, outcome_number, ended_call, loaded_number};
+ghost use Rattle.nilguseg.specs.Refusal.{how_of};
 
 use crate::core_record::put_core;
 use crate::number::{end_number, loaded_number, step_number};
@@ -19,7 +20,9 @@ pub use number::{order_number, written_number};
 
 // Puts back the core that a step leaves, and answers how it came out.
 pub fn put_step(step: Step, core: &mut [u16; 12]) -> u32
-    ensures { call result (core.new ∷ []) ≡ call (outcome_number (answer_of step.answer)) (words_of step.core ∷ []) }
+    ensures step { call result (core.new ∷ []) ≡ call (outcome_number (answer_of step.answer)) (words_of step.core ∷ []) }
+    // The upper bits say how the step came out.
+    ensures how { result / 2 ^ 24 ≡ how_of (answer_of step.answer) }
 {
     put_core(step.core, core);
     step_number(step.answer)
@@ -27,7 +30,9 @@ pub fn put_step(step: Step, core: &mut [u16; 12]) -> u32
 
 // Puts back the core that a run leaves, and answers its end, from bit 32 on, and its steps.
 pub fn put_run(run: Run, core: &mut [u16; 12]) -> u64
-    ensures { call result (core.new ∷ []) ≡ ended_call (end_of run.end) run.steps run.core [] }
+    ensures run { call result (core.new ∷ []) ≡ ended_call (end_of run.end) run.steps run.core [] }
+    // The upper bits say how the run came out.
+    ensures how { result / 2 ^ 56 ≡ how_of (end_of run.end) }
 {
     put_core(run.core, core);
     end_number(run.end) as u64 * 0x100000000 + run.steps as u64

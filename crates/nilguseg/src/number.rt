@@ -1,7 +1,8 @@
 // The numbers that a call answers to C. They are functions, since a number alone doesn't say of what it is, and neither side of most is of this crate.
-ghost use Rattle.std.specs.Prelude.{◌≡◌};
+ghost use Rattle.std.specs.Prelude.{◌≡◌, ◌/◌, ◌^◌};
 ghost use Rattle.emulator.specs.Answers.{answer_of, end_of};
 ghost use Rattle.nilguseg.specs.Host.{answered, outcome_number, loaded_number, written_number, order_number};
+ghost use Rattle.nilguseg.specs.Refusal.{how_of};
 
 use emulator::{Answer, End};
 use memory::Fault;
@@ -9,13 +10,17 @@ use sheet::SheetRefusal;
 use std::cmp::Ordering;
 
 fn number(how: u8, number: u8, value: u16) -> u32
-    ensures { result ≡ answered how number value }
+    ensures number { result ≡ answered how number value }
+    // The upper bits say how the call came out.
+    ensures how { result / 2 ^ 24 ≡ how }
 {
     how as u32 * 0x1000000 + number as u32 * 0x10000 + value as u32
 }
 
 pub fn end_number(end: End) -> u32
-    ensures { result ≡ outcome_number (end_of end) }
+    ensures number { result ≡ outcome_number (end_of end) }
+    // The upper bits say how the run came out.
+    ensures how { result / 2 ^ 24 ≡ how_of (end_of end) }
 {
     match end {
         End::Halted => number(1, 0, 0),
@@ -31,7 +36,9 @@ pub fn end_number(end: End) -> u32
 
 // A step that stops has the number of a run that ends so.
 pub fn step_number(answer: Answer) -> u32
-    ensures { result ≡ outcome_number (answer_of answer) }
+    ensures number { result ≡ outcome_number (answer_of answer) }
+    // The upper bits say how the step came out.
+    ensures how { result / 2 ^ 24 ≡ how_of (answer_of answer) }
 {
     match answer {
         Answer::Stepped => number(0, 0, 0),

@@ -2,15 +2,18 @@
 // `Instruction::decode` must have no caller here but the cycle, or it is not inlined into the run: see `nilguseg_words`.
 #![tactic(auto)]
 
-ghost use Rattle.std.specs.Prelude.{◌≡◌, ◌<◌, ◌^◌, ℕ, List, [], ◌∷◌, length, take, Ok};
+ghost use Rattle.std.specs.Prelude.{◌≡◌, ◌≢◌, ◌<◌, ◌≤◌, ◌+◌, ◌*◌, ◌/◌, ◌^◌, ℕ, List, [], ◌∷◌, length, take, Ok, None, MatchOption};
 ghost use Rattle.memory.specs.Memory.{lent};
 ghost use Rattle.emulator.specs.Machine.{plan_of, plain, step_of, run_of};
 ghost use Rattle.run_laws.specs.Agreement.{AgreesWithOthers};
+ghost use Rattle.emulator.specs.Core.{new_core};
 ghost use Rattle.order.specs.Order.{order_of, part_of};
 ghost use Rattle.sheet.specs.Load.{left, load_words_of, load_sheet_of};
 ghost use Rattle.sheet.specs.Write.{write_sheet_of};
-ghost use Rattle.nilguseg.specs.Host.{core_from, call, step_call, run_call, load_call, write_call, order_number, part_call};
+ghost use Rattle.nilguseg.specs.Host.{core_from, call, step_call, run_call, load_call, write_call, order_number, part_call, words_of};
 ghost use Rattle.nilguseg_c.specs.Host.{exchanged};
+ghost use Rattle.nilguseg.specs.Refusal.{refused_step, IsRefusedStep, refused_run, IsRefusedRun, IsWritten};
+ghost use Rattle.refusal_laws.specs.Tests.{first_failing, run_tests, sheet_tests, words_tests, write_tests};
 
 use nilguseg::{core_of, order_number, put_load, put_run, put_step, written_number};
 use order::{compare, earlier_part};
@@ -24,7 +27,14 @@ pub extern "C" fn nilguseg_step(
     marks: &mut [u8],
     edition: u16,
 ) -> u32
-    ensures { call result (core.new ∷ memory.new ∷ marks.new ∷ []) ≡ step_call (step_of plan_of (core_from core.old) (lent memory.old marks.old) edition) }
+    ensures step { call result (core.new ∷ memory.new ∷ marks.new ∷ []) ≡ step_call (step_of plan_of (core_from core.old) (lent memory.old marks.old) edition) }
+    // Refused exactly where a test fails, by the first that does; then all that was lent for
+    // writing keeps its value.
+    ensures refused { MatchOption
+        (first_failing (run_tests None edition (lent memory.old marks.old)))
+        (¬ IsRefusedStep result)
+        (λ n. call result (core.new ∷ memory.new ∷ marks.new ∷ [])
+        ≡ call (refused_step n) (core.old ∷ memory.old ∷ marks.old ∷ [])) }
 {
     put_step(core_of(*core).step(memory, marks, edition), core)
 }
@@ -39,6 +49,13 @@ pub extern "C" fn nilguseg_run(
     limit: u32,
 ) -> u64
     ensures run { call result (core.new ∷ memory.new ∷ marks.new ∷ []) ≡ run_call (run_of plan_of (core_from core.old) (lent memory.old marks.old) edition limit) }
+    // Refused exactly where a test fails, by the first that does; then all that was lent for
+    // writing keeps its value.
+    ensures refused { MatchOption
+        (first_failing (run_tests None edition (lent memory.old marks.old)))
+        (¬ IsRefusedRun result)
+        (λ n. call result (core.new ∷ memory.new ∷ marks.new ∷ [])
+        ≡ call (refused_run n) (core.old ∷ memory.old ∷ marks.old ∷ [])) }
     // If no host test refuses it: any other such run of this core, edition and limit agrees with
     // it, if its memory is as long and starts equal wherever this run's final marks include 1.
     ensures agreement { AgreesWithOthers (plain edition) (core_from core.old)
@@ -55,7 +72,14 @@ pub extern "C" fn nilguseg_load_words(
     words: &[u16],
     memory: &mut [u16],
 ) -> u32
-    ensures { call result (core.new ∷ (edition.new ∷ []) ∷ memory.new ∷ []) ≡ load_call (load_words_of words.now memory.old) }
+    ensures loaded { call result (core.new ∷ (edition.new ∷ []) ∷ memory.new ∷ []) ≡ load_call (load_words_of words.now memory.old) }
+    // Refused exactly where a test fails, by the first that does; then memory keeps its words, and
+    // the host gets a fresh core and edition 1.
+    ensures refused { MatchOption
+        (first_failing (words_tests words.now (length memory.old)))
+        (result ≡ 0)
+        (λ n. call result (core.new ∷ (edition.new ∷ []) ∷ memory.new ∷ [])
+        ≡ call n (words_of new_core ∷ (1 ∷ []) ∷ memory.old ∷ [])) }
 {
     put_load(load_words(words, memory), core, edition)
 }
@@ -68,7 +92,14 @@ pub extern "C" fn nilguseg_load_sheet(
     sheet: &[u32],
     memory: &mut [u16],
 ) -> u32
-    ensures { call result (core.new ∷ (edition.new ∷ []) ∷ memory.new ∷ []) ≡ load_call (load_sheet_of sheet.now memory.old) }
+    ensures loaded { call result (core.new ∷ (edition.new ∷ []) ∷ memory.new ∷ []) ≡ load_call (load_sheet_of sheet.now memory.old) }
+    // Refused exactly where a test fails, by the first that does; then memory keeps its words, and
+    // the host gets a fresh core and edition 1.
+    ensures refused { MatchOption
+        (first_failing (sheet_tests sheet.now (length memory.old)))
+        (result ≡ 0)
+        (λ n. call result (core.new ∷ (edition.new ∷ []) ∷ memory.new ∷ [])
+        ≡ call n (words_of new_core ∷ (1 ∷ []) ∷ memory.old ∷ [])) }
 {
     put_load(load_sheet(sheet, memory), core, edition)
 }
@@ -82,9 +113,18 @@ pub extern "C" fn nilguseg_write_sheet(
     sheet: &mut [u32],
 ) -> u64
     ensures written { call result (sheet.new ∷ []) ≡ write_call (write_sheet_of (core_from core.now) edition memory.now sheet.old) }
+    // Refused exactly where a test fails, by the first that does, whose number stands from bit 32
+    // on; then the buffer keeps its words.
+    ensures refused { MatchOption
+        (first_failing (write_tests (core_from core.now) edition memory.now (length sheet.old)))
+        (IsWritten result)
+        (λ n. call result (sheet.new ∷ []) ≡ call (n * 2 ^ 32) (sheet.old ∷ [])) }
+    // So many records always have room, whatever the memory.
+    ensures fits { 14 + length memory.now + (length memory.now + 1) / 2 ≤ length sheet.old
+        → result ≢ 4 * 2 ^ 32 }
     // Unless it is refused, what it wrote loads back into any memory as long: the core, the edition
     // and the words.
-    ensures loads_back { (held : List ℕ) → length held ≡ length memory.now → result < 2 ^ 32
+    ensures loads_back { (held : List ℕ) → length held ≡ length memory.now → IsWritten result
         → load_sheet_of (take result sheet.new) held
         ≡ left (Ok tt) (core_from core.now) edition memory.now }
 {

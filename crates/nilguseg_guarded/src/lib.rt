@@ -2,12 +2,14 @@
 // plain run would test at each access whether there are rights.
 #![tactic(auto)]
 
-ghost use Rattle.std.specs.Prelude.{[], ◌∷◌, ◌≡◌, Some};
+ghost use Rattle.std.specs.Prelude.{[], ◌∷◌, ◌≡◌, Some, MatchOption};
 ghost use Rattle.memory.specs.Memory.{lent};
 ghost use Rattle.emulator.specs.Machine.{plan_of, refusal_in, run_guarded_of, unlogged};
 ghost use Rattle.run_laws.specs.Agreement.{AgreesWithOthers};
 ghost use Rattle.run_laws.specs.Rights.{ClosedKept};
 ghost use Rattle.nilguseg.specs.Host.{core_from, call, run_call};
+ghost use Rattle.nilguseg.specs.Refusal.{refused_run, IsRefusedRun};
+ghost use Rattle.refusal_laws.specs.Tests.{first_failing, run_tests};
 
 use nilguseg::{core_of, put_run};
 
@@ -22,6 +24,13 @@ pub extern "C" fn nilguseg_run_guarded(
     limit: u32,
 ) -> u64
     ensures run { call result (core.new ∷ memory.new ∷ marks.new ∷ []) ≡ run_call (run_guarded_of plan_of (core_from core.old) (lent memory.old marks.old) rights.now edition limit) }
+    // Refused exactly where a test fails, by the first that does; then all that was lent for
+    // writing keeps its value.
+    ensures refused { MatchOption
+        (first_failing (run_tests (Some rights.now) edition (lent memory.old marks.old)))
+        (¬ IsRefusedRun result)
+        (λ n. call result (core.new ∷ memory.new ∷ marks.new ∷ [])
+        ≡ call (refused_run n) (core.old ∷ memory.old ∷ marks.old ∷ [])) }
     // If no host test refuses it: any other such run of this core, edition, limit and these rights
     // agrees with it, if its memory is as long and starts equal wherever this run's final marks
     // include 1.

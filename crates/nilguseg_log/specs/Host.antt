@@ -1,5 +1,5 @@
 -- What a host sees of a logged run (document 02, CR 2, in the layout of the header).
-use Rattle.std.specs.Prelude.{ℕ, ◌≡◌, List, [], ◌∷◌, length}
+use Rattle.std.specs.Prelude.{ℕ, ◌/◌, ◌^◌, ◌≡◌, List, [], ◌∷◌, length}
 use Rattle.memory.specs.Memory.{Memory}
 use Rattle.emulator.specs.Machine.{plan_of, RanLogged, Setting, refusal_in, run_in}
 use Rattle.emulator.specs.declared.core_record.Core.{Core}
@@ -12,6 +12,10 @@ abbrev pub logged_call : RanLogged → Call
 logged_call t =
     let r = t.run in
     ended_call r.end r.steps r.core (r.memory.words ∷ r.memory.marks ∷ t.log.buffer ∷ (t.log.count ∷ []) ∷ [])
+
+-- how the answer of a run says that its log ended it
+abbrev pub IsEndedByLog : ℕ → Type 0
+IsEndedByLog answer = answer / 2 ^ 56 ≡ 5
 
 -- the replay of a log, with a run's own core, length of memory, rights, edition and limit, shows a host what it has seen of the run, if no host
 -- test refuses the run and its log doesn't end it

@@ -5,3 +5,4 @@ pub mod LeftOut
 pub mod Written
 pub mod WordRecords
 pub mod Size
+pub mod FewRecords
