@@ -26,6 +26,6 @@ refused_run n = outcome_number (refused n) * 2 ^ 32
 abbrev pub IsRefusedRun : ℕ → Type 0
 IsRefusedRun answer = answer / 2 ^ 56 ≡ 4
 
--- how the writer's answer says that the sheet is written, and how many records it has: a refusal has its number from bit 32 on
+-- how the writer's answer says that the sheet is written: a refusal has its number from bit 32 on
 abbrev pub IsWritten : ℕ → Type 0
 IsWritten answer = answer < 2 ^ 32

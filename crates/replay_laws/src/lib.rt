@@ -3,7 +3,8 @@
 
 ghost use Rattle.replay_laws.specs.Replay.{ReplayIsRun};
 
-/// The replay of an accepted run's log gives the run's end, steps and registers, unless the run ended because its log was full.
+/// The replay of an accepted run's log gives the run's end, steps and registers, unless the run ended because its log was full. Registers and memory have
+/// 16-bit words.
 #[tactic(auto, using(crate::proofs::Replay::replay_is_run))]
 pub fn replays_are_runs()
     ensures replay { ReplayIsRun }

@@ -6,7 +6,7 @@ ghost use Rattle.sheet_laws.specs.RoundTrip.{RoundTrip};
 ghost use Rattle.sheet_laws.specs.Size.{SheetFits};
 ghost use Rattle.sheet_laws.specs.WordRecords.{BothRules};
 
-/// The sheet that the writer gives restores core, edition and memory when it is loaded, and has at most 14 + n + (n + 1) / 2 records of n words.
+/// The sheet that the writer gives restores core, edition and memory, of 16-bit words, when it is loaded, and has at most 14 + n + (n + 1) / 2 records of n words.
 #[tactic(auto, using(crate::proofs::RoundTrip::round_trip, crate::proofs::Size::sheet_fits))]
 pub fn written_sheets_load_back()
     ensures round_trip { RoundTrip }
