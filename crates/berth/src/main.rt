@@ -30,6 +30,8 @@ fn read_full<R: Read>(reader: &mut R, buf: &mut [u8]) -> io::Result<usize>
 
 /// Writes the line of the whole input, of which it reads at most one byte more than may be accepted. Where it succeeds, the writer has got that line and
 /// nothing else, if the bytes of both are known; an error of the reader or the writer is handed on.
+// (It isn't inlined, so that the loop of the sheet's run stands well: docs/PERFORMANCE.md.)
+#[inline(never)]
 pub fn run<R: Read, W: Write>(reader: &mut R, writer: &mut W) -> io::Result<()>
     ensures line { OnOk result (IfSome (R.remaining reader.old)
         (λ input. Appends (W.contents writer.old) (W.contents writer.new) (line_of input))) }
