@@ -1,8 +1,8 @@
 use std::env;
 use std::path::{Path, PathBuf};
 
-/// Links the parts of the library: libnilguseg.a and the others of the folder NILGUSEG_LIB, or of target/staticlib at the
-/// repository's root.
+/// Links the parts of the library: libnilguseg.a and the others of the folder NILGUSEG_LIB, or of
+/// target/staticlib at the repository's root.
 fn main() {
     println!("cargo:rerun-if-env-changed=NILGUSEG_LIB");
     let folder = env::var_os("NILGUSEG_LIB")

@@ -1,18 +1,30 @@
-//! The functions of libnilguseg.a and the library's other parts, as include/nilguseg.h declares them.
+//! The functions of libnilguseg.a and the library's other parts, as include/nilguseg.h declares
+//! them: it says of each what it requires and what it answers.
 
 use crate::Core;
 
-/// How a step or a run came out, as the header numbers it.
+// How a step or a run came out, as the header numbers it.
+
+/// Of a step: an instruction was executed.
 pub const STEPPED: u8 = 0;
+/// The core was halted already, or the run halted it.
 pub const HALTED: u8 = 1;
+/// Of a run: its limit of steps was reached.
 pub const LIMIT: u8 = 2;
+/// The words caused a stop.
 pub const FAULT: u8 = 3;
+/// Lengths, rights or the edition do not fit.
 pub const REFUSED: u8 = 4;
+/// Of a logged run or a replay: the log ended it.
 pub const LOG: u8 = 5;
 
-/// Which of two word lists comes first, as the header numbers it.
+// Which of two word lists comes first, as the header numbers it.
+
+/// Neither.
 pub const EQUAL: u32 = 0;
+/// The first.
 pub const FIRST: u32 = 1;
+/// The second.
 pub const SECOND: u32 = 2;
 
 unsafe extern "C" {
@@ -176,12 +188,14 @@ mod tests {
         assert_eq!(answers(0x1003, 0, 1, 3), (0x0422_0000, 0x0422_0000_0000_0000));
     }
 
-    /// The answers to a logged run of at most `limit` steps, of `word` alone in memory and with room for eight log words, and
-    /// to its replay; and what the run writes over the number of its log words.
+    /// The answers to a logged run of at most `limit` steps, of `word` alone in memory and with
+    /// room for eight log words, and to its replay; and what the run writes over the number of its
+    /// log words.
     fn log_answers(word: u16, marks_len: usize, limit: u32) -> (u64, u64, usize) {
         let (mut memory, mut marks, mut log, mut logged) = ([word], vec![0; marks_len], [0; 8], 99);
         let [mut ran, mut seen] = [Core::new(); 2];
-        // SAFETY: pointers and lengths are those of slices, and the log has no more words than its length.
+        // SAFETY: pointers and lengths are those of slices, and the log has no more words than its
+        // length.
         unsafe {
             let (memory, marks) = (memory.as_mut_ptr(), marks.as_mut_ptr());
             let run =
@@ -199,11 +213,13 @@ mod tests {
         assert_eq!(log_answers(0x1003, 2, 9), (0x0402_0000_0000_0000, 0x051F_0000_0000_0000, 0));
     }
 
-    /// The answers to a guarded run of at most one step, of `word` alone in memory, to the same with a log, and to its replay.
+    /// The answers to a guarded run of at most one step, of `word` alone in memory, to the same
+    /// with a log, and to its replay.
     fn guarded_answers(word: u16, rights: &[u8], edition: u16) -> [u64; 3] {
         let (mut memory, mut marks, mut log, mut logged) = ([word], [0], [0; 8], 99);
         let [mut plain, mut ran, mut seen] = [Core::new(); 3];
-        // SAFETY: pointers and lengths are those of slices, and the log has no more words than its length.
+        // SAFETY: pointers and lengths are those of slices, and the log has no more words than its
+        // length.
         unsafe {
             let (memory, marks) = (memory.as_mut_ptr(), marks.as_mut_ptr());
             let (rights, count, log) = (rights.as_ptr(), rights.len(), log.as_mut_ptr());

@@ -1,4 +1,5 @@
-//! The end of a sheet counts every record before it, of every kind, so that a sheet that lost one is refused.
+//! The end of a sheet counts every record before it, of every kind, so that a sheet that lost one
+//! is refused (docs/SHEETS.md, The records).
 
 use nilguseg::{Core, Refusal};
 
@@ -49,7 +50,8 @@ fn a_written_sheet_that_lost_a_record_is_refused() {
     }
 }
 
-/// Document 01 counts word records only; these ends are right by it.
+/// The end used to count word records only; these ends are right by that rule (docs/SHEETS.md, Old
+/// sheets).
 #[test]
 fn an_end_that_counts_words_only_is_refused() {
     let cases: [(&[u32], u32); 6] = [

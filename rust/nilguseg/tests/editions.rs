@@ -1,4 +1,5 @@
-//! The editions of the instruction set: what edition 2 does where edition 1 stops, what is handed over, and what sheets choose.
+//! The editions of the instruction set: what edition 2 does where edition 1 stops, what is handed
+//! over, and what sheets choose (docs/MACHINE.md, Editions; docs/SHEETS.md, The two editions).
 
 use nilguseg::{Core, Fault, LoggedRun, Outcome, Refusal, Run, PAGES};
 
@@ -12,7 +13,8 @@ fn core(r0: u16, r1: u16, ef: u16) -> Core {
     Core { r: [r0, r1, 0, 0, 0, 0, 0, 0], ef, ..Core::new() }
 }
 
-/// A step of the word alone in memory. A run of one step must come to the same, guarded, logged or both, and so must its replays.
+/// A step of the word alone in memory. A run of one step must come to the same, guarded, logged or
+/// both, and so must its replays.
 fn step(start: Core, word: u16, edition: u16) -> (Outcome, Core) {
     let mut stepped = start;
     let outcome = stepped.step(&mut [word], &mut [0], edition);
@@ -114,8 +116,8 @@ fn a_replay_takes_the_edition_of_its_run() {
     assert_eq!([1, 2].map(|edition| replay(edition, &log[..4])), [mismatch, halted]);
 }
 
-/// Every call that is handed an edition, with so much lent. Each must be refused with `number` and change nothing; a replay has no
-/// marks, and steps and plain runs have no rights to be refused.
+/// Every call that is handed an edition, with so much lent. Each must be refused with `number` and
+/// change nothing; a replay has no marks, and steps and plain runs have no rights to be refused.
 fn assert_refused(edition: u16, memory_len: usize, marks_len: usize, rights: &[u8], number: u8) {
     for (start, limit) in [(Core::new(), 9), (Core::new(), 0), (Core { ef: 1, ..Core::new() }, 9)] {
         let refused = Outcome::Refused(Refusal(number));

@@ -1,4 +1,5 @@
-//! The log of a run, the end by 30 where its room is too small, and the run seen again from it.
+//! The log of a run, the end by 30 where its room is too small, and the run seen again from it
+//! (docs/MACHINE.md, Logs and replays).
 
 use nilguseg::{Core, Fault, LoggedRun, Outcome, Refusal, Run};
 
@@ -45,8 +46,9 @@ fn fault(number: u8, value: u16) -> Outcome {
     Outcome::Fault(Fault { number, value })
 }
 
-/// A logged run with a buffer of `room` words: how it came out, the core, and the log. It must leave the rest of the buffer
-/// unchanged, and be the run without a log; where it ends by 30, the one whose limit is its steps.
+/// A logged run with a buffer of `room` words: how it came out, the core, and the log. It must
+/// leave the rest of the buffer unchanged, and be the run without a log; where it ends by 30, the
+/// one whose limit is its steps.
 fn run_logged(start: Core, memory: &[u16], limit: u32, room: usize) -> (Run, Core, Vec<u32>) {
     let (mut core, mut words, mut marks) = (start, memory.to_vec(), vec![0xA4; memory.len()]);
     let mut log = vec![UNUSED; room];
@@ -323,13 +325,15 @@ fn a_size_that_no_memory_has_is_refused_first() {
     }
 }
 
-/// The words of a text's lines: eight hexadecimal digits each, before a comment; other lines have none.
+/// The words of a text's lines: eight hexadecimal digits each, before a comment; other lines have
+/// none.
 fn words_in(text: &str) -> Vec<u32> {
     let fields = text.lines().filter_map(|line| line.split('#').next()).flat_map(str::split_whitespace);
     fields.filter(|field| field.len() == 8).map_while(|field| u32::from_str_radix(field, 16).ok()).collect()
 }
 
-/// The core of a sample, of edition 1, as berth has it, the log of its run, and the core that it leaves.
+/// The core of a sample, of edition 1, as berth has it, the log of its run, and the core that it
+/// leaves.
 fn sample(sheet: &str) -> (Core, Vec<u32>, Core) {
     let (mut start, mut memory, mut marks, mut log) = (Core::new(), vec![0; 32768], vec![0; 32768], vec![UNUSED; 64]);
     let mut edition = 0;

@@ -1,4 +1,5 @@
-//! The examples of document 01, and what a refused call leaves unchanged.
+//! Known words (docs/MACHINE.md, Known words), the worked example of docs/SHEETS.md, and what a
+//! refused call leaves unchanged (docs/NUMBERS.md, What is left unchanged).
 
 use nilguseg::{decode, encode, kind, Core, Fault, Instruction, Outcome, Refusal, Run};
 

@@ -1,4 +1,5 @@
-//! Which of two word lists comes first, and the part of it that comes back, told by where it starts in memory.
+//! Which of two word lists comes first, and the part of it that comes back, told by where it starts
+//! in memory (docs/MACHINE.md, Word lists and their order).
 
 use core::cmp::Ordering::{Equal, Greater, Less};
 use nilguseg::{compare, earlier};

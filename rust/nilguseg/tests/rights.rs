@@ -1,4 +1,5 @@
-//! Rights over memory pages: what each access needs, what a refused one leaves, and runs with every right.
+//! Rights over memory pages: what each access needs, what a refused one leaves, and runs with every
+//! right (docs/MACHINE.md, Rights).
 
 use nilguseg::right::{EXECUTE, READ, WRITE};
 use nilguseg::{Core, Fault, LoggedRun, Outcome, Refusal, Run, PAGES};
@@ -39,7 +40,8 @@ impl Left {
     }
 }
 
-/// A run with rights. The same with a log must leave the same, and the replay of its log give the same end, steps and core.
+/// A run with rights. The same with a log must leave the same, and the replay of its log give the
+/// same end, steps and core.
 fn run(start: Core, words: &[u16], rights: &[u8], limit: u32) -> Left {
     let lent = || (start, words.to_vec(), vec![0xA4; words.len()]);
     let (mut core, mut memory, mut marks) = lent();
@@ -65,16 +67,23 @@ fn log_of(mut core: Core, words: &[u16], rights: &[u8], limit: u32) -> Vec<u32> 
     log
 }
 
-/// A word at 0 that makes an access at `at`, with the core that it finds, and the right that it needs.
+/// A word at 0 that makes an access at `at`, with the core that it finds, and the right that it
+/// needs.
 fn accesses(at: u16) -> [(u16, Core, u8); 6] {
     let core = Core { r: [at, 7, 0, 0, 0, 0, 0, 0], sp: at, ..Core::new() };
     [
-        (0x2010, Core { r: [0, at, 0, 0, 0, 0, 0, 0], ..core }, READ), // read r0 from the address in r1
-        (0x3023, Core { sp: at - 3, ..core }, READ),                   // spread r2 3
-        (0x23DA, core, READ),                                          // pop r2
-        (0x2081, core, WRITE),                                         // write r1 at the address in r0
-        (0x3092, Core { sp: at - 2, ..core }, WRITE),                  // spwrite 2 r1
-        (0x23D1, Core { sp: at + 1, ..core }, WRITE),                  // push r1
+        // read r0 from the address in r1
+        (0x2010, Core { r: [0, at, 0, 0, 0, 0, 0, 0], ..core }, READ),
+        // spread r2 3
+        (0x3023, Core { sp: at - 3, ..core }, READ),
+        // pop r2
+        (0x23DA, core, READ),
+        // write r1 at the address in r0
+        (0x2081, core, WRITE),
+        // spwrite 2 r1
+        (0x3092, Core { sp: at - 2, ..core }, WRITE),
+        // push r1
+        (0x23D1, Core { sp: at + 1, ..core }, WRITE),
     ]
 }
 
@@ -86,7 +95,8 @@ fn an_access_is_done_where_its_right_is_there() {
             let left = run(start, &words, &rights(0, EXECUTE, need), 1);
             assert_eq!(left.run, Run { end: Outcome::Limit, steps: 1 }, "{word:04x} at {at:04x}");
             assert_eq!(left, run(start, &words, &ALL, 1));
-            assert_eq!(left.marked(), [(0, 1), (at as usize, need)]); // the marks of a read and of a write are 1 and 2 as well
+            // the marks of a read and of a write are 1 and 2 as well
+            assert_eq!(left.marked(), [(0, 1), (at as usize, need)]);
         }
     }
 }
@@ -209,7 +219,8 @@ fn a_replay_takes_the_rights_of_its_run() {
     assert_eq!(plain.replay(0x0200, 1, 9, &log), replay(&open, &log).0);
 }
 
-/// Every call with these rights, which must be refused with `number` and change nothing. The replay has no marks to be refused.
+/// Every call with these rights, which must be refused with `number` and change nothing. The replay
+/// has no marks to be refused.
 fn assert_refused(memory_len: usize, marks_len: usize, rights: &[u8], number: u8) {
     for (start, limit) in [(Core::new(), 9), (Core::new(), 0), (Core { ef: 1, ..Core::new() }, 9)] {
         let refused = Run { end: Outcome::Refused(Refusal(number)), steps: 0 };
