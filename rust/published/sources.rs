@@ -2,7 +2,8 @@
 use std::path::{Path, PathBuf};
 use std::{env, fs};
 
-/// The folder named by DELTA_NULL_SOURCES, or shared/docs beside the repository.
+/// The folder with the published files: the one that DELTA_NULL_SOURCES names, or shared/docs
+/// beside the repository.
 fn sources() -> PathBuf {
     println!("cargo:rerun-if-env-changed=DELTA_NULL_SOURCES");
     env::var_os("DELTA_NULL_SOURCES").map_or_else(
@@ -11,8 +12,9 @@ fn sources() -> PathBuf {
     )
 }
 
-/// The published file `path`: in a checkout it stands under its own path, in the flat folder under
-/// `src--` and the path with `--` for each `/`, ending in `.txt`.
+/// The published file `path`: in a checkout of the published repository (NOTICE names it) it stands
+/// under its own path, in a flat folder under `src--` and the path with `--` for each `/`, ending
+/// in `.txt`.
 fn find(path: &str) -> PathBuf {
     let folder = sources();
     let flat = folder.join(format!("src--{}.txt", path.replace('/', "--")));

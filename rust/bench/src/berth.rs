@@ -9,6 +9,7 @@ use nilguseg::{Core, Outcome};
 
 use crate::{times, Times};
 
+/// The program and its sheets, with what was measured so far.
 pub struct Berth {
     path: String,
     /// The example, which has two steps, and then the programs.
@@ -21,12 +22,14 @@ struct Sheet {
     /// What berth owes for it, and the steps that this takes.
     line: String,
     steps: u32,
-    /// Of each round: nanoseconds from the start of the process until its line is read and it has ended.
+    /// Of each round: nanoseconds from the start of the process until its line is read and it has
+    /// ended.
     wall: Vec<f64>,
     cpu: Vec<f64>,
 }
 
 impl Berth {
+    /// The program that stands at `path`, which is not run yet.
     pub fn new(path: &str, programs: &[&Program]) -> Berth {
         let mut sheets = vec![Sheet::new("the example", &[0x1003, 0xFFFF])];
         sheets.extend(programs.iter().map(|program| Sheet::new(program.name, &program.words)));
@@ -49,6 +52,7 @@ impl Berth {
         self.sheets[1..].iter().map(step).collect()
     }
 
+    /// Prints the time from the start to the line, of the example and of the first program.
     pub fn print_start_to_line(&self) {
         println!("\nberth from start to line, milliseconds of wall time, least and median");
         for sheet in &self.sheets[..2] {
@@ -80,7 +84,8 @@ impl Sheet {
     }
 }
 
-/// The line that berth owes for a sheet that halts or reaches the limit, by the library; and the steps.
+/// The line that berth owes for a sheet that halts or reaches the limit, by the library; and the
+/// steps.
 fn line_of(sheet: &[u32]) -> (String, u32) {
     let (mut core, mut edition, mut memory, mut marks) = (Core::new(), 0, vec![0; 32768], vec![0; 32768]);
     core.load_sheet(&mut edition, sheet, &mut memory).unwrap();

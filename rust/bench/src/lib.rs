@@ -1,4 +1,4 @@
-//! What both programs of the benchmark need: the clock, and the programs that are measured.
+//! What both programs of the benchmark need: the clock, and the rule programs that are measured.
 
 use differential::programs::loops;
 use differential::work::works;
@@ -43,11 +43,15 @@ pub fn children_cpu_time() -> f64 {
 
 /// A program with the end that its run must have.
 pub struct Program {
+    /// Its name in docs/PERFORMANCE.md.
     pub name: &'static str,
-    /// Nothing for an endless loop.
+    /// What it computes; empty for an endless loop.
     pub computes: &'static str,
+    /// What stands in memory from address 0 on.
     pub words: Vec<u16>,
+    /// The limit of its run.
     pub limit: u32,
+    /// How the run ends.
     pub end: Outcome,
     /// What it must leave in r0 and on.
     pub result: Vec<u16>,

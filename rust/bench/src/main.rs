@@ -1,6 +1,9 @@
-//! usage: bench BERTH, the path of the program berth
-//! Prints the CPU time per step of the programs of both tables, the speed of sheets, and the time of berth from start
-//! to line.
+//! Measures the library, the published Rust and the program berth (docs/PERFORMANCE.md). Its
+//! argument is the path of berth.
+//!
+//! Prints the CPU time per step of the programs of both tables, the speed of sheets and of the
+//! order of word lists, and the time of berth from start to line. The machines other than berth are
+//! run by the program `measure`, each in a process of its own.
 
 mod berth;
 
@@ -14,7 +17,8 @@ use berth::Berth;
 use nilguseg::Core;
 
 const ROUNDS: usize = 15;
-/// A comparison of lists takes less than a tenth of a millisecond, so that 15 of them may all fall under a neighbour's load.
+/// A comparison of lists takes less than a tenth of a millisecond, so that 15 of them may all fall
+/// under a neighbour's load.
 const LIST_ROUNDS: usize = 2000;
 
 /// What is measured beside berth: its name, the cargo profile it is built in, and the machine.
@@ -73,7 +77,8 @@ fn main() {
     }
 }
 
-/// Each machine takes its turn, so that a neighbour's load falls on all alike: for each machine and program one time more.
+/// Each machine takes its turn, so that a neighbour's load falls on all alike: for each machine and
+/// program one time more.
 fn round(rounds: &mut [Vec<Vec<f64>>]) {
     let mut digests = Vec::new();
     for (rounds, (_, profile, machine)) in rounds.iter_mut().zip(MACHINES) {
@@ -104,7 +109,8 @@ fn measure(profile: &str) -> PathBuf {
     this.parent().unwrap().parent().unwrap().join(profile).join("measure")
 }
 
-/// The columns of one table, the first of which is column `first` of the rows; and the shares of the first row.
+/// The columns of one table, the first of which is column `first` of the rows; and the shares of
+/// the first row.
 fn print_table(table: &[Program], rows: &[(&str, Vec<Times>)], first: usize) {
     println!();
     print_row("", table.iter().map(|program| program.name));
@@ -155,8 +161,8 @@ fn sheets() {
     println!("loading {:.1}, writing {:.1}", speed(loading), speed(writing));
 }
 
-/// Two lists that are equal: 65,536 words, and the same with as many zeros after them. There is no published Rust for
-/// it, so the library stands beside a search written with Rust's iterators.
+/// Two lists that are equal: 65,536 words, and the same with as many zeros after them. There is no
+/// published Rust for it, so the library stands beside a search written with Rust's iterators.
 fn lists() {
     let words: Vec<u16> = (0..=0xFFFF).map(|at: u16| at | 1).collect();
     let longer = [words.clone(), vec![0; 65536]].concat();

@@ -1,5 +1,5 @@
-//! Programs as text: a line has an instruction with its operands in the order of `Instruction`, or a label and a colon.
-//! `set` is putl and puth. `#` starts a comment.
+//! Programs as text: a line has an instruction with its operands in the order of `Instruction`, or
+//! a label and a colon. `set` is putl and puth. `#` starts a comment.
 
 use std::collections::HashMap;
 
@@ -13,7 +13,8 @@ pub struct Assembly {
     pub names: HashMap<&'static str, u16>,
 }
 
-/// The words of a program that begins at address 0. What it names and does not define is in `names`.
+/// The words of a program that begins at address 0. What it names and does not define is in
+/// `names`.
 pub fn assemble(text: &'static str, names: &[(&'static str, u16)]) -> Assembly {
     let lines: Vec<Vec<&str>> = text.lines().map(fields).filter(|fields| !fields.is_empty()).collect();
     let mut names: HashMap<&str, u16> = names.iter().copied().collect();

@@ -5,7 +5,8 @@ use crate::model::Terms;
 use crate::report::Report;
 use nilguseg::{Core, LoggedRun, Outcome, Refusal, Run};
 
-/// What may be lent to a call, and the edition that it is handed or, by a load, hands back. The records are a sheet's or a log's.
+/// What may be lent to a call, and the edition that it is handed or, by a load, hands back. The
+/// records are a sheet's or a log's.
 #[derive(Debug, Clone, PartialEq)]
 pub struct Lent {
     pub core: Core,
@@ -79,7 +80,8 @@ pub fn expect<A: PartialEq + std::fmt::Debug>(
     }
 }
 
-/// A logged run; the run without a log, as far as there was room; and the replay, for which memory is dropped.
+/// A logged run; the run without a log, as far as there was room; and the replay, for which memory
+/// is dropped.
 pub fn expect_runs(
     machine: &dyn Machine,
     what: [&str; 3],
@@ -115,7 +117,8 @@ fn details<A: std::fmt::Debug>(lent: &Lent, given: &Called<A>, expected: &Called
     )
 }
 
-/// Rights in short: how many bytes, and the first of them that do not allow everything, with their pages.
+/// Rights in short: how many bytes, and the first of them that do not allow everything, with their
+/// pages.
 fn told(rights: &Option<Vec<u8>>) -> String {
     let Some(rights) = rights else { return String::new() };
     let less: Vec<(usize, u8)> = rights.iter().copied().enumerate().filter(|(_, byte)| *byte != 7).take(8).collect();

@@ -1,5 +1,6 @@
-//! The second edition of the instruction set (document 02), against the model, for the published Rust has only the first. Where
-//! the Rust does not stop by 13 or 14 it measures edition 2 too: the model's run must be the Rust's.
+//! The second edition of the instruction set (docs/MACHINE.md, Editions), against the model, for
+//! the published Rust has only the first. Where the Rust does not stop by 13 or 14 it measures
+//! edition 2 too: the model's run must be the Rust's.
 
 use crate::calls::{
     called, compare, expect_runs, lent, log_of, replay, run, run_logged, step, write_sheet, Called, Lent,
@@ -23,8 +24,8 @@ struct Editions<'a> {
     report: &'a mut Report,
 }
 
-/// `programs` programs in edition 2, the benchmark's for at most `steps` steps each; every word that decodes in `states` states;
-/// and of the amounts from 64 on, each `stride`-th.
+/// `programs` programs in edition 2, the benchmark's for at most `steps` steps each; every word
+/// that decodes in `states` states; and of the amounts from 64 on, each `stride`-th.
 pub fn editions(machine: &dyn Machine, programs: usize, steps: u32, states: usize, stride: usize, report: &mut Report) {
     let mut editions = Editions { machine, random: Random::new(12), report };
     editions.refusals();
@@ -101,8 +102,8 @@ impl Editions<'_> {
         }
     }
 
-    /// Every word that decodes in `states` states of random cores in memories of 300 words, and some that do not, in both editions.
-    /// What is not 13 or 14 in edition 1 is common.
+    /// Every word that decodes in `states` states of random cores in memories of 300 words, and
+    /// some that do not, in both editions. What is not 13 or 14 in edition 1 is common.
     fn words(&mut self, states: usize) {
         let length = 300;
         let edges = edges(length);
@@ -126,7 +127,8 @@ impl Editions<'_> {
         }
     }
 
-    /// Runs of a program in edition 2, guarded and not; and replays of logs of one edition in the other.
+    /// Runs of a program in edition 2, guarded and not; and replays of logs of one edition in the
+    /// other.
     fn program(&mut self, program: &Program, limit: u32) {
         let published = Published::run(program, limit);
         let stopped = stops(published.run.end);
@@ -173,7 +175,8 @@ impl Editions<'_> {
         self.report.count("of them are not as the run", (answer.end == Outcome::Log(31)) as u64);
     }
 
-    /// A logged run, the run without a log and the replay, against the model. Returns what the model does.
+    /// A logged run, the run without a log and the replay, against the model. Returns what the
+    /// model does.
     fn modelled(&mut self, given: &Lent, limit: u32) -> Called<LoggedRun> {
         let expected = called(&Model, given, run_logged(limit));
         let what = ["a logged run in edition 2", "a run in edition 2", "a replay in edition 2"];
@@ -187,7 +190,8 @@ fn stops(end: Outcome) -> bool {
     matches!(end, Outcome::Fault(Fault { number: 13 | 14, .. }))
 }
 
-/// A random or structured program; in one of two cases shifts and negations stand at places near its beginning.
+/// A random or structured program; in one of two cases shifts and negations stand at places near
+/// its beginning.
 fn shifting_program(random: &mut Random) -> Program {
     let mut program = match random.one_in(4) {
         true => structured_program(random, 40),

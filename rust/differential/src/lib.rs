@@ -1,4 +1,6 @@
-//! The comparison of a machine with the published Rust, and with the documents where there is no Rust.
+//! The comparison of a machine with the published Rust, and with the model (model.rs) where there
+//! is no Rust. ../README.md says what is compared, and what the words used here mean. The machine
+//! is that of docs/MACHINE.md, its numbers are those of docs/NUMBERS.md.
 
 mod assembly;
 mod calls;
@@ -55,6 +57,7 @@ pub struct Effort {
     pub amounts: usize,
 }
 
+/// What `scripts/differential` compares.
 pub const FULL: Effort = Effort {
     states: 60,
     stride: 1,
@@ -71,6 +74,7 @@ pub const FULL: Effort = Effort {
     amounts: 1,
 };
 
+/// What `scripts/differential --short` compares, in less than a minute.
 pub const SHORT: Effort = Effort {
     states: 6,
     stride: 16,
@@ -128,7 +132,8 @@ const PARTS: [Part; 15] = [
     |machine, _, report| words::encode(machine, report),
 ];
 
-/// All parts of the comparison; after the first disagreement no further part, where `until_first` is set.
+/// All parts of the comparison; after the first disagreement no further part, where `until_first`
+/// is set.
 pub fn compare(machine: &dyn Machine, effort: &Effort, until_first: bool, report: &mut Report) {
     for part in PARTS {
         if until_first && report.disagreements > 0 {

@@ -1,4 +1,5 @@
-//! Which of two word lists comes first, against the model: the order, and the part that comes back, by where it starts.
+//! Which of two word lists comes first (docs/MACHINE.md, Word lists and their order), against the
+//! model: the order, and the part that comes back, by where it starts.
 
 use std::cmp::Ordering;
 
@@ -15,7 +16,8 @@ fn word(random: &mut Random) -> u16 {
     }
 }
 
-/// Two lists with a common part of `length` words, each as it is, cut, with zeros or a word after it, or with a word changed.
+/// Two lists with a common part of `length` words, each as it is, cut, with zeros or a word after
+/// it, or with a word changed.
 fn pair(random: &mut Random, length: usize) -> [Vec<u16>; 2] {
     let common: Vec<u16> = (0..length).map(|_| word(random)).collect();
     [(); 2].map(|()| {
@@ -35,7 +37,8 @@ fn pair(random: &mut Random, length: usize) -> [Vec<u16>; 2] {
     })
 }
 
-/// What is counted: orders, parts that are empty though the lists differ, lists that are empty, and lists of more than 65,536 words.
+/// What is counted: orders, parts that are empty though the lists differ, lists that are empty, and
+/// lists of more than 65,536 words.
 #[derive(Default)]
 struct Counts {
     orders: [u64; 3],
@@ -63,7 +66,8 @@ fn compare(machine: &dyn Machine, first: &[u16], second: &[u16], counts: &mut Co
     }
 }
 
-/// `cases` pairs of lists: most with a common part of a few words, some with one of hundreds, few with one of about 65,536.
+/// `cases` pairs of lists: most with a common part of a few words, some with one of hundreds, few
+/// with one of about 65,536.
 pub fn lists(machine: &dyn Machine, cases: usize, report: &mut Report) {
     let mut random = Random::new(9);
     let mut counts = Counts::default();

@@ -1,5 +1,7 @@
-//! Logs of reads (document 02): a logged run's against the reads that the published Rust makes, its replay against the
-//! run; and against the model what there is no Rust for: changed logs, and too little room.
+//! Logs of reads (docs/MACHINE.md, Logs and replays): a logged run's against the reads that the
+//! published Rust makes, its replay against the run; and against the model what there is no Rust
+//! for: changed logs, and too little room. A room is the length of the buffer that is lent for a
+//! log.
 
 use crate::calls::{called, compare, expect_runs, lent, replay, run_logged, Called, Lent};
 use crate::machine::{Machine, Model};
@@ -61,7 +63,8 @@ fn log_word(random: &mut Random) -> u32 {
     random.pick(&[4 << 28, 4 << 28 | FETCH, 5 << 28]) | random.word() as u32
 }
 
-/// A logged run by the published Rust: how it ends, what it leaves, its log in the records, and the least room that it needs.
+/// A logged run by the published Rust: how it ends, what it leaves, its log in the records, and the
+/// least room that it needs.
 pub struct Published {
     pub run: Run,
     pub left: Lent,
@@ -109,7 +112,8 @@ pub fn logs(machine: &dyn Machine, programs: usize, steps: u32, report: &mut Rep
 }
 
 impl Logs<'_> {
-    /// A run with room enough, against the published Rust. Returns its log and the least room that is enough.
+    /// A run with room enough, against the published Rust. Returns its log and the least room that
+    /// is enough.
     fn run(&mut self, program: &Program, limit: u32) -> (Vec<u32>, usize) {
         let published = Published::run(program, limit);
         let given = with_room(program, published.needed + self.random.below(8));

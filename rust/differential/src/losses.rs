@@ -1,4 +1,5 @@
-//! Sheets that lost a record (document 02): one that loads is refused without any one of its records, the end too.
+//! Sheets that lost a record: one that loads is refused without any one of its records, the end too
+//! (docs/SHEETS.md, The records).
 
 use std::fs;
 
@@ -13,7 +14,8 @@ use nilguseg::{Core, Refusal};
 /// The memory that the program berth has.
 const BERTH: usize = 32768;
 
-/// The records of a sheet written as text: eight hexadecimal digits a line, and comments from `#` on.
+/// The records of a sheet written as text: eight hexadecimal digits a line, and comments from `#`
+/// on.
 fn records(text: &str) -> Vec<u32> {
     let lines = text.lines().filter_map(|line| line.split('#').next()).map(str::trim);
     let records = lines.filter(|line| !line.is_empty()).map(|line| u32::from_str_radix(line, 16));
@@ -38,8 +40,9 @@ fn written(random: &mut Random, length: usize, edition: u16) -> Vec<u32> {
     left.records[..answer.expect("the buffer suffices")].to_vec()
 }
 
-/// The sheet, and then the sheet without each of its records: it must be refused by 24 without its end, else by one of the
-/// numbers given. One that does not load, as samples/refused.sheet, is left at that: without a record it may be right.
+/// The sheet, and then the sheet without each of its records: it must be refused by 24 without its
+/// end, else by one of the numbers given. One that does not load, as samples/refused.sheet, is left
+/// at that: without a record it may be right.
 fn losses(machine: &dyn Machine, sheet: &[u32], length: usize, numbers: &[u8], report: &mut Report) {
     let whole = lent(Core { r: [9; 8], ..Core::new() }, vec![0xBEEF; length], 0, sheet.to_vec());
     if compare_load_sheet(machine, &whole, report).answer.is_err() {

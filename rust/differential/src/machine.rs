@@ -1,10 +1,13 @@
-//! What the comparison asks of a machine. What a machine does not say for itself is the model of the documents.
+//! What the comparison asks of a machine. What a machine does not say for itself, the model says.
 
 use std::cmp::Ordering;
 
 use crate::model::{self, Terms};
 use nilguseg::{Core, Fault, Instruction, LoggedRun, Outcome, Refusal, Run};
 
+/// A machine that can be compared: the model, the library, or a wrong one. Each function is that of
+/// the same name in the wrapper, rust/nilguseg, which says what it does; the terms have the edition
+/// and, where the wrapper's guarded functions are asked, the rights.
 pub trait Machine {
     fn decode(&self, word: u16) -> Result<Instruction, Fault> {
         model::decode(word)

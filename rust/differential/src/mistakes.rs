@@ -1,5 +1,5 @@
-//! Wrong machines, each the model with one mistake. The comparison must report every one of them; the first
-//! five are the "Mistakes met in such machines" of document 01.
+//! Wrong machines, each the model with one mistake. The comparison must report every one of them;
+//! the first five are mistakes that were met in machines of this kind.
 
 mod counts;
 mod editions;
@@ -11,7 +11,9 @@ use crate::machine::Machine;
 use crate::model::{self, Guard, Terms, DATA, FETCH};
 use nilguseg::{kind::*, Core, Fault, Instruction, LoggedRun, Outcome, Refusal, Run};
 
+/// A machine with one mistake.
 pub struct WrongMachine {
+    /// What it does wrong.
     pub name: &'static str,
     mistake: Mistake,
 }
@@ -52,7 +54,8 @@ type Taken = fn(u32, &[u32]) -> bool;
 struct Stepped<'a> {
     edition: u16,
     before: Core,
-    /// The kind of the word fetched and its operands; no kind where none was fetched or it is undecodable.
+    /// The kind of the word fetched and its operands; no kind where none was fetched or it is
+    /// undecodable.
     kind: Option<u8>,
     first: usize,
     second: usize,

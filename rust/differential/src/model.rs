@@ -1,7 +1,9 @@
-//! The machine of document 01, written from its text alone, plainly and slowly: decoding looks a word up in
-//! a table made by encoding every operand of every row. It is the base of the wrong machines, and the measure
-//! for what the published Rust does not have: refusals, sheets, and document 02's order of word lists, the room
-//! for a log, the replay, rights over memory pages where one is absent, and the second edition of the instruction set.
+//! The model: the machine as docs/MACHINE.md, docs/NUMBERS.md and docs/SHEETS.md say it, written
+//! apart from the library, plainly and slowly. Decoding looks a word up in a table made by encoding
+//! every operand of every row. It is the base of the wrong machines, and the measure for what the
+//! published Rust does not have: refusals, sheets, the order of word lists, the room for a log, the
+//! replay, rights over memory pages where one is absent, and the second edition of the instruction
+//! set.
 
 use std::cmp::Ordering;
 
@@ -37,7 +39,9 @@ const fn row(kind: u8, base: u16, first: Operand, second: Operand) -> Row {
     Row { kind, base, first, second }
 }
 
-/// The section "Words". The operands stand in the order of the published enum's fields; the kinds in its order.
+/// The table of docs/MACHINE.md, Instructions: for each kind its word with all operands 0, and
+/// where its operands stand. The operands stand in the order of the published enum's fields; the
+/// kinds in its order.
 const ROWS: [Row; 43] = [
     row(NOP, 0x0000, NONE, NONE),
     row(HLT, 0xFFFF, NONE, NONE),
@@ -86,7 +90,8 @@ const ROWS: [Row; 43] = [
 
 const UNDECODABLE: u8 = 43;
 
-/// What each word decodes to. Two rows that claimed one word would be a compile error.
+/// What each word decodes to, `UNDECODABLE` where no row has it. Two rows that claimed one word
+/// would be a compile error.
 static DECODED: [Instruction; 65536] = {
     let mut table = [Instruction { kind: UNDECODABLE, first: 0, second: 0 }; 65536];
     let mut k = 0;
@@ -105,6 +110,8 @@ static DECODED: [Instruction; 65536] = {
     table
 };
 
+/// The instruction that a word stands for, or stop 10 with the word (docs/MACHINE.md,
+/// Instructions).
 pub fn decode(word: u16) -> Result<Instruction, Fault> {
     match DECODED[word as usize] {
         Instruction { kind: UNDECODABLE, .. } => Err(Fault { number: 10, value: word }),
@@ -112,12 +119,14 @@ pub fn decode(word: u16) -> Result<Instruction, Fault> {
     }
 }
 
+/// The word of an instruction; none where the kind or a register does not exist.
 pub fn encode(instruction: Instruction) -> Option<u16> {
     let row = ROWS.get(instruction.kind as usize)?;
     Some(row.base + place(&row.first, instruction.first)? + place(&row.second, instruction.second)?)
 }
 
-/// The operand's bits. An offset above 15 goes by its low four bits; a register above the last has none.
+/// The operand's bits. An offset above 15 goes by its low four bits; a register above the last has
+/// none.
 fn place(operand: &Operand, value: u8) -> Option<u16> {
     let value = match operand.values {
         1 => 0,
@@ -133,6 +142,7 @@ pub type Rights<'a> = Option<&'a [u8]>;
 /// What a run is handed beside what it may change and its limit.
 #[derive(Clone, Copy)]
 pub struct Terms<'a> {
+    /// None where the run has no rights over pages, and so every right.
     pub rights: Rights<'a>,
     /// The edition's number: 1 or 2, where it is not refused.
     pub edition: u16,
@@ -141,7 +151,7 @@ pub struct Terms<'a> {
 /// Tests an access by its address, the right that it needs, memory's length and the rights.
 pub type Access = fn(u16, u8, usize, Rights) -> Result<(), Fault>;
 
-/// Document 01's stop 11, then document 02's 33.
+/// Stop 11 first, then stop 33 (docs/MACHINE.md, Rights).
 pub fn access(at: u16, need: u8, length: usize, rights: Rights) -> Result<(), Fault> {
     if at as usize >= length {
         return Err(Fault { number: 11, value: at });
@@ -157,11 +167,14 @@ pub fn access(at: u16, need: u8, length: usize, rights: Rights) -> Result<(), Fa
 /// What a run is handed, and what its accesses are tested by.
 #[derive(Clone, Copy)]
 pub struct Guard<'a> {
+    /// What the run is handed.
     pub terms: Terms<'a>,
+    /// The test of each access, which a wrong machine replaces.
     pub access: Access,
 }
 
 impl<'a> Guard<'a> {
+    /// The guard of the model: its test is `access`.
     pub fn of(terms: Terms<'a>) -> Guard<'a> {
         Guard { terms, access }
     }
@@ -183,7 +196,8 @@ trait Words {
     fn write(&mut self, at: u16, word: u16) -> Result<(), Fault>;
 }
 
-/// The memory and the marks lent to a step, and the log to which its reads are added, if there is one.
+/// The memory and the marks lent to a step, and the log to which its reads are added, if there is
+/// one.
 struct Lent<'a> {
     memory: &'a mut [u16],
     marks: &'a mut [u8],
@@ -213,16 +227,19 @@ impl Words for Lent<'_> {
     }
 }
 
-/// What a word is read for, as its log word has it.
+/// What a word is read for, as its log word has it: to be executed.
 pub const FETCH: u32 = 1 << 16;
+/// The same of every other read.
 pub const DATA: u32 = 0;
 
-/// The two log words of a read (document 02): kind 4 with the purpose and the address, kind 5 with the word.
+/// The two log words of a read (docs/MACHINE.md, Logs and replays): kind 4 with the purpose and the
+/// address, kind 5 with the word.
 pub fn entry(purpose: u32, at: u16, word: u16) -> [u32; 2] {
     [4 << 28 | purpose | at as u32, 5 << 28 | word as u32]
 }
 
-/// The first host test that fails on what a step or a run is lent.
+/// The first host test that fails on what a step or a run is lent: 1, 2, 32, 34 (docs/NUMBERS.md,
+/// The order of the tests).
 fn host_test(memory: &[u16], marks: &[u8], terms: Terms) -> Result<(), Refusal> {
     length_test(memory.len())?;
     if marks.len() != memory.len() {
@@ -236,6 +253,7 @@ fn terms_test(terms: Terms) -> Result<(), Refusal> {
     edition_test(terms.edition)
 }
 
+/// Test 32: rights are `PAGES` bytes of at most 7.
 pub fn rights_test(rights: Rights) -> Result<(), Refusal> {
     match rights {
         Some(rights) if rights.len() != PAGES || rights.iter().any(|byte| *byte > 7) => Err(Refusal(32)),
@@ -243,6 +261,7 @@ pub fn rights_test(rights: Rights) -> Result<(), Refusal> {
     }
 }
 
+/// Test 34: an edition is 1 or 2.
 pub fn edition_test(edition: u16) -> Result<(), Refusal> {
     match edition {
         1 | 2 => Ok(()),
@@ -250,6 +269,7 @@ pub fn edition_test(edition: u16) -> Result<(), Refusal> {
     }
 }
 
+/// Test 1: memory has 1 to 65,536 words.
 fn length_test(length: usize) -> Result<(), Refusal> {
     if (1..=65536).contains(&length) {
         Ok(())
@@ -258,11 +278,13 @@ fn length_test(length: usize) -> Result<(), Refusal> {
     }
 }
 
+/// One step, without rights and without a log (docs/MACHINE.md, One step).
 pub fn step(core: &mut Core, memory: &mut [u16], marks: &mut [u8], edition: u16) -> Outcome {
     step_of_run(core, memory, marks, Guard::of(Terms { rights: None, edition }), None)
 }
 
-/// A step with a guard, whose rights are tested already, that adds its reads to the log, if there is one.
+/// A step with a guard, whose rights are tested already, that adds its reads to the log, if there
+/// is one.
 pub fn step_of_run(
     core: &mut Core,
     memory: &mut [u16],
@@ -287,6 +309,7 @@ fn turn(core: &mut Core, edition: u16, words: &mut dyn Words) -> Outcome {
     }
 }
 
+/// Fetches at ip, advances ip, decodes and executes.
 fn cycle(core: &mut Core, edition: u16, words: &mut dyn Words) -> Result<(), Fault> {
     let word = words.read(core.ip, FETCH)?;
     core.ip = sum(core.ip, 1);
@@ -294,6 +317,8 @@ fn cycle(core: &mut Core, edition: u16, words: &mut dyn Words) -> Result<(), Fau
     execute(core, instruction, word, edition, words)
 }
 
+/// What each instruction does (docs/MACHINE.md, Instructions). `word` is the instruction's, for
+/// stop 12.
 fn execute(
     core: &mut Core,
     instruction: Instruction,
@@ -381,7 +406,8 @@ fn result(kind: u8, reg: u16, val: u16, condition: bool, edition: u16) -> Result
     })
 }
 
-/// Stop 13 in edition 1. In edition 2 a shift gives 0, and bitset leaves its register.
+/// Stop 13 in edition 1. In edition 2 a shift gives 0, and bitset leaves its register
+/// (docs/MACHINE.md, Editions).
 fn by_16_or_more(kind: u8, reg: u16, val: u16, edition: u16) -> Result<u16, Fault> {
     match (edition, kind) {
         (1, _) => Err(Fault { number: 13, value: val }),
@@ -416,6 +442,7 @@ fn set_condition(core: &mut Core, condition: bool) {
     core.ef = if condition { core.ef | 0x0002 } else { core.ef & 0xFFFD };
 }
 
+/// A run without a log (docs/MACHINE.md, The run).
 pub fn run(core: &mut Core, memory: &mut [u16], marks: &mut [u8], terms: Terms, limit: u32) -> Run {
     let guard = Guard::of(terms);
     let step = |core: &mut Core, memory: &mut [u16], marks: &mut [u8]| step_of_run(core, memory, marks, guard, None);
@@ -456,6 +483,7 @@ fn turns(mut step: impl FnMut(&mut Core) -> Outcome, core: &mut Core, limit: u32
     Run { end, steps }
 }
 
+/// A run that writes its log to the front of `log` (docs/MACHINE.md, Logs and replays).
 pub fn run_logged(
     core: &mut Core,
     memory: &mut [u16],
@@ -491,9 +519,11 @@ pub fn run_logged_by(
     LoggedRun { end, steps, logged: words.len() }
 }
 
-/// The word that a log has for a read with the address word given: none where its next two words are not that read.
+/// The word that a log has for a read with the address word given: none where its next two words
+/// are not that read.
 pub type Found = fn(u32, &[u32]) -> Option<u16>;
 
+/// As the model finds it: the word of the log's next read, if that is the read that is made.
 pub fn found(address_word: u32, log: &[u32]) -> Option<u16> {
     match *log {
         [address, value, ..] if address == address_word && value >> 16 == 5 << 12 => Some(value as u16),
@@ -526,19 +556,25 @@ impl Words for Tape<'_> {
     }
 }
 
-/// A replay up to its end, or to the first read that the log does not have: the core there, and the words left over.
+/// A replay up to its end, or to the first read that the log does not have: the core there, and the
+/// words left over.
 pub struct Followed {
+    /// The core there.
     pub core: Core,
+    /// The end and the steps up to there; stop 31 stands for a read that the log does not have.
     pub run: Run,
+    /// How many words of the log are left over.
     pub left: usize,
 }
 
+/// Follows a log from the core given, in place of a memory of `size` words.
 pub fn follow(found: Found, guard: Guard, mut core: Core, size: usize, limit: u32, log: &[u32]) -> Followed {
     let mut tape = Tape { size, guard, rest: log, found };
     let run = turns(|core| turn(core, guard.terms.edition, &mut tape), &mut core, limit);
     Followed { core, run, left: tape.rest.len() }
 }
 
+/// A replay, or 1, 32, 34 or 31 with the core unchanged (docs/MACHINE.md, Logs and replays).
 pub fn replay(core: &mut Core, size: usize, terms: Terms, limit: u32, log: &[u32]) -> Run {
     replay_by(found, Guard::of(terms), core, size, limit, log)
 }
@@ -556,6 +592,7 @@ pub fn replay_by(found: Found, guard: Guard, core: &mut Core, size: usize, limit
     followed.run
 }
 
+/// Loads a plain word list (docs/MACHINE.md, Word lists and their order).
 pub fn load_words(core: &mut Core, edition: &mut u16, words: &[u16], memory: &mut [u16]) -> Result<(), Refusal> {
     (*core, *edition) = (Core::new(), 1);
     length_test(memory.len())?;
@@ -567,13 +604,20 @@ pub fn load_words(core: &mut Core, edition: &mut u16, words: &[u16], memory: &mu
     Ok(())
 }
 
-/// The kinds of a sheet's records.
+// The kinds of a sheet's records (docs/SHEETS.md, The records).
+
+/// Bits 15..0 become the load address.
 pub const PLACE: u32 = 1;
+/// Bits 15..0 go to the load address, which then rises by 1.
 pub const WORD: u32 = 2;
+/// Bits 19..16 are a register, bits 15..0 its value.
 pub const PRESET: u32 = 3;
+/// Bits 15..0 are the edition.
 pub const EDITION: u32 = 7;
+/// Bits 27..0 are the number of all records before it.
 pub const END: u32 = 15;
 
+/// Loads a rule sheet, if it passes its tests (docs/SHEETS.md, The records).
 pub fn load_sheet(core: &mut Core, edition: &mut u16, sheet: &[u32], memory: &mut [u16]) -> Result<(), Refusal> {
     (*core, *edition) = (Core::new(), 1);
     length_test(memory.len())?;
@@ -595,7 +639,8 @@ pub fn load_sheet(core: &mut Core, edition: &mut u16, sheet: &[u32], memory: &mu
     Ok(())
 }
 
-/// The sheet's stops, record by record. An end has the number of all records before it (document 02).
+/// The sheet's tests, record by record (docs/NUMBERS.md, The order of the tests). An end has the
+/// number of all records before it.
 pub fn sheet_test(sheet: &[u32], length: usize) -> Result<(), Refusal> {
     let mut address = 0;
     for (i, &record) in sheet.iter().enumerate() {
@@ -635,6 +680,7 @@ fn register(core: &mut Core, number: u32) -> &mut u16 {
     }
 }
 
+/// Writes the sheet of a core, an edition and a memory (docs/SHEETS.md, What the writer gives).
 pub fn write_sheet(core: &Core, edition: u16, memory: &[u16], sheet: &mut [u32]) -> Result<usize, Refusal> {
     length_test(memory.len())?;
     edition_test(edition)?;
@@ -649,8 +695,8 @@ pub fn write_sheet(core: &Core, edition: u16, memory: &[u16], sheet: &mut [u32])
     Ok(before_end + 1)
 }
 
-/// What stands before the end: the edition where it is 2, presets 0 to 11, a place before each stretch of nonzero words,
-/// those words.
+/// What stands before the end: the edition where it is 2, presets 0 to 11, a place before each
+/// stretch of nonzero words, those words.
 fn records<'a>(core: &Core, edition: u16, memory: &'a [u16]) -> impl Iterator<Item = u32> + 'a {
     let mut core = *core;
     let chosen = (edition == 2).then_some(EDITION << 28 | 2);
@@ -669,13 +715,15 @@ pub fn padded(first: &[u16], second: &[u16]) -> [Vec<u16>; 2] {
     [first, second].map(|list| list.iter().copied().chain(std::iter::repeat(0)).take(length).collect())
 }
 
-/// The order of two word lists (document 02): that of the padded lists, word by word.
+/// The order of two word lists (docs/MACHINE.md, Word lists and their order): that of the padded
+/// lists, word by word.
 pub fn compare(first: &[u16], second: &[u16]) -> Ordering {
     let [first, second] = padded(first, second);
     first.cmp(&second)
 }
 
-/// The part of the earlier list from the first place where they differ on, or the empty end of the first.
+/// The part of the earlier list from the first place where they differ on, or the empty end of the
+/// first.
 pub fn earlier<'a>(first: &'a [u16], second: &'a [u16]) -> &'a [u16] {
     let [left, right] = padded(first, second);
     let Some(place) = left.iter().zip(&right).position(|(left, right)| left != right) else {

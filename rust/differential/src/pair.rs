@@ -43,8 +43,8 @@ impl<'a> Pair<'a> {
         }
     }
 
-    /// One step of both, compared in answer, registers, and the word and mark at each address that the
-    /// published Rust touched. What was touched without need shows in `compare_whole`.
+    /// One step of both, compared in answer, registers, and the word and mark at each address that
+    /// the published Rust touched. What was touched without need shows in `compare_whole`.
     pub fn step(&mut self, what: &str, report: &mut Report) -> Outcome {
         let before = self.core;
         let word = self.memory.get(before.ip as usize).copied();

@@ -1,4 +1,5 @@
-//! Programs with loops, calls and a stack: six endless ones to measure by, and random ones that end.
+//! Programs with loops, calls and a stack: six endless ones to measure by, and random ones that
+//! end.
 
 use crate::random::Random;
 use crate::states::word;
@@ -96,8 +97,8 @@ fn immediates() -> Vec<u16> {
     words
 }
 
-/// 4,000 words of thirty kinds in no order, then back to 0 by a call. Nothing stops: r6 stays 7, an amount to
-/// shift by, and r7 stays 0x7000, an address.
+/// 4,000 words of thirty kinds in no order, then back to 0 by a call. Nothing stops: r6 stays 7, an
+/// amount to shift by, and r7 stays 0x7000, an address.
 fn mixed() -> Vec<u16> {
     let mut random = Random::new(4000);
     let mut words = [set(7, 0x7000), set(6, 7)].concat();
@@ -111,8 +112,8 @@ fn mixed() -> Vec<u16> {
     words
 }
 
-/// A rule written out in full, as document 02 has it: 2,000 words, three of four of them putl and puth, in no order; then
-/// back to 0 by a call, so that no loop is shorter.
+/// A rule written out in full: most words of a long rule are putl and puth. 2,000 words, three of
+/// four of them those two, in no order; then back to 0 by a call, so that no loop is shorter.
 fn long_rule() -> Vec<u16> {
     let mut random = Random::new(2000);
     let mut words = Vec::new();
@@ -140,7 +141,8 @@ fn clause(random: &mut Random) -> Vec<u16> {
     words
 }
 
-/// One or two words that change r0 to r5, the condition, sp by one, or memory near sp and at r7; none stops.
+/// One or two words that change r0 to r5, the condition, sp by one, or memory near sp and at r7;
+/// none stops.
 fn harmless(random: &mut Random) -> Vec<u16> {
     let (any, low, byte) = (random.below(8) as u8, random.below(6) as u8, random.byte());
     let one = match random.below(30) {
@@ -170,8 +172,9 @@ fn harmless(random: &mut Random) -> Vec<u16> {
     vec![one]
 }
 
-/// A program of a counted loop around a body and a call of a function, which ends by hlt unless its data
-/// lead it astray. r7 points at `address`, and so does sp. r6, by which it shifts, is below `amounts`.
+/// A program of a counted loop around a body and a call of a function, which ends by hlt unless its
+/// data lead it astray. r7 points at `address`, and so does sp. r6, by which it shifts, is below
+/// `amounts`.
 pub fn structured(random: &mut Random, address: u16, amounts: usize) -> Vec<u16> {
     let body = |random: &mut Random| -> Vec<u16> {
         let turns = 1 + random.below(12);

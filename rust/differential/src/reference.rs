@@ -1,5 +1,5 @@
-//! The published Rust: its instructions by number, and its Core over a memory of any length that keeps marks,
-//! with its panics turned into the stops that document 01 has for them.
+//! The published Rust: its instructions by number, and its Core over a memory of any length that
+//! keeps marks, with its panics turned into the stops that docs/NUMBERS.md has for them.
 
 use std::any::Any;
 use std::cell::{Cell, RefCell};
@@ -66,7 +66,8 @@ pub fn published(instruction: Instruction) -> Option<Published> {
     })
 }
 
-/// Memory of any length up to 65,536. It keeps the marks of document 01 and notes what was touched.
+/// Memory of any length up to 65,536. It keeps marks (docs/MACHINE.md, Memory and marks) and notes
+/// what was touched.
 struct Watched {
     words: Vec<u16>,
     marks: Vec<Cell<u8>>,
@@ -116,6 +117,7 @@ pub struct Reference {
 }
 
 impl Reference {
+    /// With these registers, over these words and as many marks.
     pub fn new(core: Core, words: Vec<u16>, marks: &[u8]) -> Reference {
         assert_eq!(words.len(), marks.len());
         let marks = marks.iter().copied().map(Cell::new).collect();
@@ -132,31 +134,38 @@ impl Reference {
         reference
     }
 
+    /// The registers now.
     pub fn registers(&self) -> Core {
         Core { r: self.core.gprs, ip: self.core.ip, rp: self.core.rp, sp: self.core.sp, ef: self.core.ef }
     }
 
+    /// Gives every register a value.
     pub fn set_registers(&mut self, core: Core) {
         self.core.gprs = core.r;
         (self.core.ip, self.core.rp, self.core.sp, self.core.ef) = (core.ip, core.rp, core.sp, core.ef);
     }
 
+    /// The memory now.
     pub fn words(&self) -> &[u16] {
         &self.core.memory.words
     }
 
+    /// Puts a word at an address, which leaves the mark as it is.
     pub fn set_word(&mut self, address: u16, word: u16) {
         self.core.memory.words[address as usize] = word;
     }
 
+    /// The mark of an address.
     pub fn mark(&self, address: u16) -> u8 {
         self.core.memory.marks[address as usize].get()
     }
 
+    /// All marks.
     pub fn marks(&self) -> Vec<u8> {
         self.core.memory.marks.iter().map(Cell::get).collect()
     }
 
+    /// Gives an address another mark.
     pub fn set_mark(&mut self, address: u16, mark: u8) {
         self.core.memory.marks[address as usize].set(mark);
     }
@@ -168,7 +177,7 @@ impl Reference {
         touched.into_iter().take(memory.touches.get())
     }
 
-    /// `Core::step`, in document 01's terms.
+    /// `Core::step`, with the numbers of docs/NUMBERS.md.
     pub fn step(&mut self) -> Outcome {
         self.core.memory.touches.set(0);
         self.core.memory.reads.get_mut().clear();
@@ -195,8 +204,8 @@ impl Reference {
         self.run_by(Reference::step, limit)
     }
 
-    /// A run with the log of its reads, and the least room in which each step finds four log words free. A step's first
-    /// read is its fetch.
+    /// A run with the log of its reads, and the least room in which each step finds four log words
+    /// free. A step's first read is its fetch.
     pub fn run_logged(&mut self, limit: u32) -> (Run, Vec<u32>, usize) {
         let (mut log, mut needed) = (Vec::new(), 0);
         let step = |reference: &mut Reference| {
@@ -230,7 +239,8 @@ impl Reference {
     }
 }
 
-/// The stop that document 01 has for a panic. What the panic says and what the word is must both fit.
+/// The stop that docs/NUMBERS.md has for a panic. What the panic says and what the word is must
+/// both fit.
 fn stop(panic: Box<dyn Any + Send>, before: Core, word: u16) -> Fault {
     use Published::*;
     let text = panic.downcast_ref::<&str>().copied().unwrap_or("another panic");
@@ -241,7 +251,7 @@ fn stop(panic: Box<dyn Any + Send>, before: Core, word: u16) -> Fault {
         ("attempt to shift right with overflow", Some(Shr { val, .. })) => (13, register(val)),
         ("attempt to shift left with overflow", Some(Bitset { idx, .. })) => (13, register(idx)),
         ("attempt to negate with overflow", Some(Neg { reg })) => (14, register(reg)),
-        other => panic!("document 01 has no stop for {other:?}"),
+        other => panic!("docs/NUMBERS.md has no stop for {other:?}"),
     };
     Fault { number, value }
 }

@@ -7,7 +7,9 @@ use nilguseg::{kind, Outcome};
 /// Disagreements told in full; the rest are only counted.
 const TOLD: u64 = 20;
 
+/// What a comparison has found so far.
 pub struct Report {
+    /// How many disagreements there are.
     pub disagreements: u64,
     /// The first disagreement, in one line.
     pub first: Option<String>,
@@ -67,6 +69,7 @@ impl Report {
         }
     }
 
+    /// Counts a disagreement in `what`; its details are asked for only where they are told.
     pub fn disagree(&mut self, what: &str, details: impl FnOnce() -> String) {
         self.disagreements += 1;
         if self.first.is_none() || !self.quiet && self.disagreements <= TOLD {
@@ -86,6 +89,8 @@ impl Report {
         }
     }
 
+    /// Counts a single step by how it came out and, unless the core was halted, by its kind, if its
+    /// word has one.
     pub fn count_step(&mut self, kind: Option<u8>, step: Outcome) {
         self.steps.count(step);
         if let (Some(kind), false) = (kind, step == Outcome::Halted) {
@@ -93,19 +98,23 @@ impl Report {
         }
     }
 
+    /// Counts a run by its end, and its steps.
     pub fn count_run(&mut self, end: Outcome, steps: u32) {
         self.runs.count(end);
         self.run_steps += steps as u64;
     }
 
+    /// How many single steps were counted.
     pub fn steps(&self) -> u64 {
         self.steps.total()
     }
 
+    /// How many steps the counted runs have together.
     pub fn run_steps(&self) -> u64 {
         self.run_steps
     }
 
+    /// Prints all counts; the last line is that of the disagreements.
     pub fn print(&self) {
         for (what, count) in &self.others {
             println!("{count} {what}");

@@ -1,5 +1,6 @@
-//! Rights over memory pages (document 02): where every access has its right, against the published Rust, which knows no rights;
-//! else against the model. Each case is a run, a logged run and a replay.
+//! Rights over memory pages (docs/MACHINE.md, Rights): where every access has its right, against
+//! the published Rust, which knows no rights; else against the model. Each case is a run, a logged
+//! run and a replay.
 
 use crate::calls::{called, compare, expect_runs, lent, log_of, replay, run, run_logged, Called, Lent};
 use crate::logs::{with_room, Published};
@@ -25,8 +26,8 @@ struct Guarded<'a> {
     report: &'a mut Report,
 }
 
-/// `programs` programs with rights of several sorts, the benchmark's for at most `steps` steps each, and one in `stride` of the
-/// accesses at borders.
+/// `programs` programs with rights of several sorts, the benchmark's for at most `steps` steps
+/// each, and one in `stride` of the accesses at borders.
 pub fn rights(machine: &dyn Machine, programs: usize, steps: u32, stride: usize, report: &mut Report) {
     let mut guarded = Guarded { machine, random: Random::new(11), report };
     guarded.refusals();
@@ -62,8 +63,8 @@ impl Guarded<'_> {
         }
     }
 
-    /// Runs with just the rights that are used, with more, and with all, against the published Rust. Returns those used, and
-    /// the room that the log needs.
+    /// Runs with just the rights that are used, with more, and with all, against the published
+    /// Rust. Returns those used, and the room that the log needs.
     fn allowed(&mut self, program: &Program, limit: u32) -> (Vec<u8>, usize) {
         let published = Published::run(program, limit);
         let used = used(&published.left);
@@ -76,7 +77,8 @@ impl Guarded<'_> {
         (used, published.needed)
     }
 
-    /// A run with enough room for its log, and replays of that with other rights, against the model. Returns what the model does.
+    /// A run with enough room for its log, and replays of that with other rights, against the
+    /// model. Returns what the model does.
     fn modelled(&mut self, program: &Program, limit: u32, rights: Vec<u8>, room: usize) -> Called<LoggedRun> {
         let given = Lent { rights: Some(rights), ..with_room(program, room) };
         let expected = called(&Model, &given, run_logged(limit));
@@ -91,7 +93,8 @@ impl Guarded<'_> {
         expected
     }
 
-    /// Rooms about those that the last step needs, of a run that logs so many words, against the model.
+    /// Rooms about those that the last step needs, of a run that logs so many words, against the
+    /// model.
     fn rooms(&mut self, program: &Program, limit: u32, rights: Vec<u8>, logged: usize) {
         for room in [self.random.below(8), logged, logged + 1, logged + 2, logged + 3, logged + 4] {
             let given = Lent { rights: Some(rights.clone()), ..with_room(program, room) };
@@ -112,7 +115,8 @@ impl Guarded<'_> {
         rights.iter().map(|byte| byte | self.random.below(8) as u8).collect()
     }
 
-    /// Any rights, or just those used or all but on a few pages, mostly pages that are used. The first fetch is most often allowed.
+    /// Any rights, or just those used or all but on a few pages, mostly pages that are used. The
+    /// first fetch is most often allowed.
     fn drawn(&mut self, used: &[u8], ip: u16) -> Vec<u8> {
         let mut rights = match self.random.below(3) {
             0 => self.superset(&[0; PAGES]),
@@ -133,8 +137,8 @@ impl Guarded<'_> {
         rights
     }
 
-    /// Accesses of every kind at every border, in memories of every length, by a word at its beginning or end, before the address
-    /// or at it. One in `stride` of them.
+    /// Accesses of every kind at every border, in memories of every length, by a word at its
+    /// beginning or end, before the address or at it. One in `stride` of them.
     fn borders(&mut self, stride: usize) {
         let (mut refused, mut fetches) = ([0; 6], 0);
         for (length, at) in LENGTHS.iter().flat_map(|length| BORDERS.map(|at| (*length, at))) {
@@ -154,8 +158,8 @@ impl Guarded<'_> {
         self.report.count("of them end by 33 at their fetch", fetches);
     }
 
-    /// Two steps, the first of the word, which makes an access at the address, with every byte there, against the model. How many
-    /// end by 33 at that access, and at the word's fetch.
+    /// Two steps, the first of the word, which makes an access at the address, with every byte
+    /// there, against the model. How many end by 33 at that access, and at the word's fetch.
     fn border(&mut self, length: usize, at: u16, word: u16, core: Core) -> [u64; 2] {
         let mut program = Program { core, memory: vec![0; length] };
         if let Some(first) = program.memory.get_mut(core.ip as usize) {
@@ -253,8 +257,8 @@ fn accesses(at: u16) -> [(u16, Core); 6] {
     ]
 }
 
-/// Rights with the byte on the page of `at`, and none or all on the others: so that the word at `ip` may be fetched, then so that
-/// it may not, unless by a byte of its own page.
+/// Rights with the byte on the page of `at`, and none or all on the others: so that the word at
+/// `ip` may be fetched, then so that it may not, unless by a byte of its own page.
 fn around(byte: u8, at: u16, ip: u16) -> [Vec<u8>; 4] {
     let [none, all] = [[0; PAGES], ALL].map(|rights| with(&rights, page(at), byte));
     let fetched = |rights: &[u8]| with(rights, page(ip), rights[page(ip)] | right::EXECUTE);

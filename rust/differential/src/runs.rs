@@ -1,4 +1,5 @@
-//! Whole programs in edition 1: in lockstep, and as runs with limits around the place where they end.
+//! Whole programs in edition 1: in lockstep, and as runs with limits around the place where they
+//! end.
 
 use crate::machine::Machine;
 use crate::model::Terms;
@@ -49,8 +50,8 @@ pub fn structured_program(random: &mut Random, amounts: usize) -> Program {
     Program { core: Core::new(), memory }
 }
 
-/// Programs in lockstep, until `steps` steps are compared. A program goes on after a fault, and now and then
-/// a register gets a new value, so that one program meets many states.
+/// Programs in lockstep, until `steps` steps are compared. A program goes on after a fault, and now
+/// and then a register gets a new value, so that one program meets many states.
 pub fn lockstep(machine: &dyn Machine, steps: u64, report: &mut Report) {
     let mut random = Random::new(4);
     let enough = report.steps() + steps;
@@ -91,8 +92,8 @@ fn disturbed(random: &mut Random, mut core: Core, step: Outcome, length: usize) 
     core
 }
 
-/// Runs of programs with limits 0 and 1, one before the end, exactly there, one past it and far past it, until
-/// `steps` steps are compared.
+/// Runs of programs with limits 0 and 1, one before the end, exactly there, one past it and far
+/// past it, until `steps` steps are compared.
 pub fn limits(machine: &dyn Machine, steps: u64, report: &mut Report) {
     let mut random = Random::new(5);
     let enough = report.run_steps() + steps;

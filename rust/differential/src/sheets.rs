@@ -1,5 +1,6 @@
-//! What the published Rust has in part or not at all: word lists against `SimpleMemory::with_content`, and
-//! sheets and refusals against the model of document 01.
+//! What the published Rust has in part or not at all: word lists against
+//! `SimpleMemory::with_content`, and sheets (docs/SHEETS.md) and refusals (docs/NUMBERS.md) against
+//! the model.
 
 use crate::calls::{compare, lent, load_sheet, replay, run, run_logged, step, write_sheet, Called, Lent};
 use crate::machine::Machine;
@@ -9,7 +10,8 @@ use crate::states::{self, edges};
 use delta_null_core_emulator::memory::SimpleMemory;
 use nilguseg::{Core, Refusal};
 
-/// Lengths that do not fit: steps, runs, replays, loads and writes that must be refused and change nothing.
+/// Lengths that do not fit: steps, runs, replays, loads and writes that must be refused and change
+/// nothing.
 pub fn refusals(machine: &dyn Machine, report: &mut Report) {
     let mut random = Random::new(6);
     let lengths = [0, 1, 2, 3, 65535, 65536, 65537, 70000];
@@ -27,7 +29,8 @@ pub fn refusals(machine: &dyn Machine, report: &mut Report) {
     report.others.push(("pairs of lengths tried on every call", (lengths.len() * lengths.len()) as u64));
 }
 
-/// A load of a word list against the model, and the model against the published Rust where it refuses nothing.
+/// A load of a word list against the model, and the model against the published Rust where it
+/// refuses nothing.
 fn compare_load_words(machine: &dyn Machine, core: Core, words: &[u16], length: usize, report: &mut Report) {
     let load = |m: &dyn Machine, l: &mut Lent| m.load_words(&mut l.core, &mut l.edition, words, &mut l.memory);
     let lent = Lent { edition: FOUND, ..lent(core, vec![0xBEEF; length], 0, vec![]) };
@@ -94,7 +97,8 @@ fn load_address(machine: &dyn Machine, report: &mut Report) {
     }
 }
 
-/// `cases` sheets loaded, and as many cores, editions and memories written, into buffers that fit, are too long or too short.
+/// `cases` sheets loaded, and as many cores, editions and memories written, into buffers that fit,
+/// are too long or too short.
 pub fn sheets(machine: &dyn Machine, cases: usize, report: &mut Report) {
     let mut random = Random::new(7);
     let (mut refused, mut editions) = ([0; 35], [0; 3]);

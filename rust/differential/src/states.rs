@@ -27,6 +27,7 @@ pub fn value(random: &mut Random, edges: &[u16], length: usize) -> u16 {
     }
 }
 
+/// A core for a memory of that length: most often awake, with ip inside memory.
 pub fn core(random: &mut Random, edges: &[u16], length: usize) -> Core {
     let mut core = Core::new();
     core.r = std::array::from_fn(|_| value(random, edges, length));

@@ -1,4 +1,5 @@
-//! Single steps: every word in many states, every edge of every operand, every value of one operand.
+//! Single steps: every word in many states, every edge of every operand, every value of one
+//! operand.
 
 use crate::machine::Machine;
 use crate::model;
@@ -51,7 +52,8 @@ pub fn every_edge(machine: &dyn Machine, report: &mut Report) {
     }
 }
 
-/// Every kind with each `stride`-th value in its first or second operand, in sp and rp, and at times in ef.
+/// Every kind with each `stride`-th value in its first or second operand, in sp and rp, and at
+/// times in ef.
 pub fn every_value(machine: &dyn Machine, stride: usize, report: &mut Report) {
     let mut random = Random::new(3);
     let mut pair = random_pair(machine, &mut random, 65536);

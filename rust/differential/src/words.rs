@@ -36,8 +36,8 @@ pub fn decode(machine: &dyn Machine, report: &mut Report) {
     report.others.push(("words decoded", 65536));
 }
 
-/// Every kind from 0 to 255 with every pair of operands from 0 to 255, encoded; so also each offset above 15
-/// and each operand that does not exist.
+/// Every kind from 0 to 255 with every pair of operands from 0 to 255, encoded; so also each offset
+/// above 15 and each operand that does not exist.
 pub fn encode(machine: &dyn Machine, report: &mut Report) {
     let mut encoded = 0;
     for number in 0..1 << 24 {

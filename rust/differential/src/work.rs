@@ -1,18 +1,23 @@
-//! Programs that do real work, as a compiler of rules would emit it: tables and searches, nested loops, a function with
-//! locals on the stack, arithmetic over several words. Each ends by hlt within berth's limit and memory, and leaves its
-//! result in r0 and on.
+//! Programs that do real work, as a compiler of rules would emit it: tables and searches, nested
+//! loops, a function with locals on the stack, arithmetic over several words. Each ends by hlt
+//! within berth's limit and memory, and leaves its result in r0 and on.
 
 use crate::assembly::{assemble, Assembly};
 use crate::random::Random;
 
+/// A program with its table, to be loaded at address 0.
 pub struct Work {
+    /// Its name in docs/PERFORMANCE.md.
     pub name: &'static str,
+    /// What it computes.
     pub computes: &'static str,
+    /// The code, and the table behind it.
     pub words: Vec<u16>,
     /// What it leaves in r0 and on, computed here without the machine.
     pub result: Vec<u16>,
 }
 
+/// The programs of the benchmark that end.
 pub fn works() -> [Work; 6] {
     [search(), overlaps(), sort(), ways(), squares(), rules()]
 }

@@ -1,4 +1,5 @@
-# Nested loops. r1 points past the first stay of a pair and r2 into the table; r3 and r4 are the first stay's ends, r5 and r6 the second's.
+# Nested loops. r1 points past the first stay of a pair and r2 into the table; r3 and r4 are the
+# first stay's ends, r5 and r6 the second's.
     set r0 stack
     movsi sp r0
     set r0 0

@@ -1,5 +1,5 @@
-# The table has the addresses of the rules, then records of a rule's number and an operand. A rule changes r0 by r1. r7 points at the
-# records.
+# The table has the addresses of the rules, then records of a rule's number and an operand. A rule
+# changes r0 by r1. r7 points at the records.
     set r0 stack
     movsi sp r0
     jmpoff start

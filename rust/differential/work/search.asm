@@ -1,4 +1,5 @@
-# Binary search. r1 to r2 is what is left of the table, r3 its middle, r4 the length there, r5 the length looked for.
+# Binary search. r1 to r2 is what is left of the table, r3 its middle, r4 the length there, r5 the
+# length looked for.
     set r0 stack
     movsi sp r0
     set r0 0

@@ -1,4 +1,5 @@
-# Insertion sort. r1 points past the sorted part, r2 at the gap; r3 is the word to put there, r4 the one before the gap, at r5.
+# Insertion sort. r1 points past the sorted part, r2 at the gap; r3 is the word to put there, r4 the
+# one before the gap, at r5.
     set r0 stack
     movsi sp r0
     set r6 table

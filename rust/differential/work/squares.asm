@@ -1,5 +1,5 @@
-# A number of three words: r0, the word below the count on the stack, and r2. A square is made of the products of bytes: its low word
-# in r3, its high word in r5. r7 points at the words.
+# A number of three words: r0, the word below the count on the stack, and r2. A square is made of
+# the products of bytes: its low word in r3, its high word in r5. r7 points at the words.
     set r0 stack
     movsi sp r0
     set r0 0

@@ -1,4 +1,5 @@
-# A function that calls itself: its argument and its result in r0; on the stack the sum, the argument and rp.
+# A function that calls itself: its argument and its result in r0; on the stack the sum, the
+# argument and rp.
     set r0 stack
     movsi sp r0
     jmpoff start

@@ -47,8 +47,9 @@ impl Default for Core {
 /// range, 12 to 14 where the published Rust panics, 33 a right absent. In edition 2 there are no 13
 /// and 14.
 ///
-/// Memory keeps what earlier steps wrote. ip is advanced, unless 11 or 33 is of the fetch itself,
-/// and a push leaves sp lowered. The address that 11 or 33 is of gets no mark.
+/// Where a step or a run ends by it, memory keeps what earlier steps wrote, ip is advanced, unless
+/// 11 or 33 is of the fetch itself, and a push leaves sp lowered. The address that 11 or 33 is of
+/// gets no mark.
 #[derive(Debug, Clone, Copy, PartialEq, Eq)]
 pub struct Fault {
     /// 10 to 14, or 33.

@@ -1,7 +1,12 @@
-//! usage: measure published|library|library-second|guarded|logged|logged-guarded|replay|replay-guarded
-//! Runs the programs of both tables, and prints for each the CPU nanoseconds per step and a digest of what the run left.
-//! All run in edition 1, the Rust's, but library-second: no program here does what differs in edition 2.
-//! Built twice: with and without overflow checks, which are those of the published Rust.
+//! Measures one machine, once. Its argument is the machine: `published`, the published Rust, or the
+//! library by its runs with rights (`guarded`), with a log (`logged`), with both
+//! (`logged-guarded`), with neither (`library`, and `library-second` in edition 2), or by its
+//! replays (`replay`, `replay-guarded`).
+//!
+//! Runs the programs of both tables, and prints for each a line: the CPU nanoseconds per step, and
+//! a digest of what the run left. All run in edition 1, the Rust's, but `library-second`: no
+//! program here does what differs in edition 2. Built twice: with and without overflow checks,
+//! which are those of the published Rust.
 
 use std::cell::Cell;
 use std::hash::{DefaultHasher, Hash, Hasher};

@@ -1,5 +1,5 @@
-//! The negative control: wrong machines in place of the host library, each of which the comparison must report.
-//! The model that they are made from must pass.
+//! The negative control: wrong machines in place of the host library, each of which the comparison
+//! must report. The model that they are made from must pass.
 
 use differential::machine::{Machine, Model};
 use differential::mistakes::wrong_machines;

@@ -1,24 +1,26 @@
-//! Writes a fixed sample of the published Rust's answers, which are edition 1's, to the file named, to be replayed without Rust.
+//! Writes a fixed sample of the published Rust's answers, which are edition 1's, to the file named,
+//! to be replayed without Rust.
 //!
-//! The file is a list of cases of 222 bytes and nothing else: 111 words of 16 bits, the low byte first.
+//! The file is a list of cases of 222 bytes and nothing else: 111 words of 16 bits, the low byte
+//! first.
 //!
-//! | words     | what                                                                                      |
-//! |-----------|-------------------------------------------------------------------------------------------|
-//! | 0         | 0 for one step, 1 for a run                                                               |
-//! | 1         | the run's limit; 0 for a step                                                             |
-//! | 2         | the byte that each of the 32 marks is at the start                                        |
-//! | 3 to 14   | the registers at the start: r0 to r7, ip, rp, sp, ef                                      |
-//! | 15 to 46  | the memory at the start: 32 words, which is its length                                    |
-//! | 47        | the answer, in numbers of this file: of a step 0 stepped, 1 halted, 2 fault;              |
-//! |           | of a run 0 halted, 1 limit, 2 fault                                                       |
-//! | 48, 49    | the fault's number and value; 0 where there is none                                       |
-//! | 50        | the steps counted; 0 for a step                                                           |
-//! | 51 to 62  | the registers at the end                                                                  |
-//! | 63 to 94  | the memory at the end                                                                     |
-//! | 95 to 110 | the marks at the end: 32 bytes in order                                                   |
+//! | words     | what                                                                         |
+//! |-----------|------------------------------------------------------------------------------|
+//! | 0         | 0 for one step, 1 for a run                                                  |
+//! | 1         | the run's limit; 0 for a step                                                |
+//! | 2         | the byte that each of the 32 marks is at the start                           |
+//! | 3 to 14   | the registers at the start: r0 to r7, ip, rp, sp, ef                         |
+//! | 15 to 46  | the memory at the start: 32 words, which is its length                       |
+//! | 47        | the answer, in numbers of this file: of a step 0 stepped, 1 halted, 2 fault; |
+//! |           | of a run 0 halted, 1 limit, 2 fault                                          |
+//! | 48, 49    | the fault's number and value; 0 where there is none                          |
+//! | 50        | the steps counted; 0 for a step                                              |
+//! | 51 to 62  | the registers at the end                                                     |
+//! | 63 to 94  | the memory at the end                                                        |
+//! | 95 to 110 | the marks at the end: 32 bytes in order                                      |
 //!
-//! Where the Rust panics, the answer is the stop that document 01 has for it (12, 13 or 14). A mark at the end is
-//! what reads and writes seen by the Rust's Memory make of it.
+//! Where the Rust panics, the answer is the stop that docs/NUMBERS.md has for it (12, 13 or 14). A
+//! mark at the end is what reads and writes seen by the Rust's Memory make of it.
 //!
 //! Cases are drawn from a fixed seed and kept while there are few of their class.
 
@@ -61,7 +63,8 @@ fn draw(random: &mut Random) -> Start {
     Start { core, memory, mark: if random.one_in(2) { 0 } else { random.byte() } }
 }
 
-/// The words that tell an answer: its class, its number, its value. `on` and `off` are the classes of a core that goes on and of a halted one.
+/// The words that tell an answer: its class, its number, its value. `on` and `off` are the classes
+/// of a core that goes on and of a halted one.
 fn answer_words(outcome: Outcome, on: u16, off: u16) -> [u16; 3] {
     match outcome {
         Outcome::Stepped | Outcome::Limit => [on, 0, 0],

@@ -1,4 +1,4 @@
-//! Machines that are wrong about the count at the end of a sheet (document 02).
+//! Machines that are wrong about the count at the end of a sheet (docs/SHEETS.md, The records).
 
 use super::*;
 use crate::model::{EDITION, END, PLACE, PRESET, WORD};
@@ -24,7 +24,8 @@ fn of(kinds: &[u32], records: &[u32]) -> u32 {
     records.iter().filter(|record| kinds.contains(&(*record >> 28))).count() as u32
 }
 
-/// The sheet with the right count at each end whose count is taken for right, and a wrong one at the others.
+/// The sheet with the right count at each end whose count is taken for right, and a wrong one at
+/// the others.
 pub fn decided(taken: Taken, sheet: &[u32]) -> Vec<u32> {
     changed(sheet, |before, record| match record >> 28 {
         END if taken(record << 4 >> 4, before) => end(all(before)),

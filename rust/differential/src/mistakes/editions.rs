@@ -1,4 +1,4 @@
-//! Machines that are wrong about the editions of the instruction set.
+//! Machines that are wrong about the editions of the instruction set (docs/MACHINE.md, Editions).
 
 use super::*;
 

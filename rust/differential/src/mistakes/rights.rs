@@ -1,4 +1,4 @@
-//! Machines that are wrong about rights over memory pages.
+//! Machines that are wrong about rights over memory pages (docs/MACHINE.md, Rights).
 
 use super::*;
 use crate::model::Rights;

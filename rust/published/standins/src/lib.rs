@@ -1,37 +1,44 @@
-//! Stand-ins for the macros that the published files use: the attribute `bitmatch`, and derives of strum
-//! and delta_null_core_macros, which make nothing, since nothing published uses what they would make.
+//! Stand-ins for the macros that the published files use: the attribute `bitmatch`, and derives of
+//! strum and delta_null_core_macros, which make nothing, since nothing published uses what they
+//! would make.
 
 use proc_macro::{Delimiter, Group, TokenStream, TokenTree};
 
+/// Makes nothing, in place of strum's derive.
 #[proc_macro_derive(AsRefStr)]
 pub fn as_ref_str(_: TokenStream) -> TokenStream {
     TokenStream::new()
 }
 
+/// Makes nothing, in place of strum's derive.
 #[proc_macro_derive(EnumDiscriminants, attributes(strum_discriminants))]
 pub fn enum_discriminants(_: TokenStream) -> TokenStream {
     TokenStream::new()
 }
 
+/// Makes nothing, in place of strum's derive.
 #[proc_macro_derive(EnumIter)]
 pub fn enum_iter(_: TokenStream) -> TokenStream {
     TokenStream::new()
 }
 
+/// Makes nothing, in place of the derive of delta_null_core_macros.
 #[proc_macro_derive(InstructionOpcodeMnemonics)]
 pub fn instruction_opcode_mnemonics(_: TokenStream) -> TokenStream {
     TokenStream::new()
 }
 
+/// Makes nothing, in place of the derive of delta_null_core_macros.
 #[proc_macro_derive(InstructionBuild)]
 pub fn instruction_build(_: TokenStream) -> TokenStream {
     TokenStream::new()
 }
 
 /// The one use that encoding.rs makes of the crate bitmatch: an attribute on a function in which
-/// `#[bitmatch] match VALUE { ARMS }` stands. An arm is `"PATTERN" => EXPRESSION,` or `_ => EXPRESSION,`.
-/// In a pattern 0 and 1 are fixed bits, _ separates, and a letter is a variable bound to that letter's bits.
-/// Arms are tried in the order written. Anything else is a compile error.
+/// `#[bitmatch] match VALUE { ARMS }` stands. An arm is `"PATTERN" => EXPRESSION,` or
+/// `_ => EXPRESSION,`. In a pattern 0 and 1 are fixed bits, _ separates, and a letter is a variable
+/// bound to that letter's bits. Arms are tried in the order written. Anything else is a compile
+/// error.
 #[proc_macro_attribute]
 pub fn bitmatch(attribute: TokenStream, item: TokenStream) -> TokenStream {
     assert!(attribute.is_empty(), "bitmatch takes no arguments");
