@@ -1,8 +1,10 @@
 # Sourced by the scripts beside it: settings, and what to do where something is missing.
 #
-# NILGUSEG_LIB        a folder with the library's parts, libnilguseg.a and the four others; by default target/staticlib, built by
-#                     scripts/staticlib
-# DELTA_NULL_SOURCES  a folder with the published Rust; by default ../shared/docs
+# NILGUSEG_LIB        a folder with the library's parts, libnilguseg.a and the four others; by
+#                     default target/staticlib, built by scripts/staticlib
+# DELTA_NULL_SOURCES  a folder with the published Rust: a checkout of the repository that NOTICE
+#                     names, or its seven files side by side, as rust/published/sources.rs finds
+#                     them; by default ../shared/docs
 
 absolute() { [ -z "$1" ] || realpath -m "$1"; }
 library_given=$(absolute "${NILGUSEG_LIB:-}")
