@@ -1,5 +1,6 @@
--- The opcode of a word with the upper byte hi and the lower byte lo (document 01, Words). It need not be believed: what is decoded by
--- it, `decode_of`, is proved to be the inverse of the table `encode_of`.
+-- Need not be believed: encoding_laws::decoding_inverts_encoding ties it to the table of words.
+-- The opcode of a word with the upper byte hi and the lower byte lo: the first half of `decode_of`,
+-- which is proved to be the inverse of the table `encode_of`.
 use Rattle.std.specs.Prelude.{ℕ, ◌/◌, ◌%◌, Bool, ltb, eqb, if◌then◌else◌}
 use Rattle.opcode.specs.declared.InstructionOpcode.{InstructionOpcode}
 use Rattle.opcode.specs.declared.InstructionOpcode.TheVariants.{Undecodable, Nop, Hlt, Mov, DMov, Putl, Puth, Read, Write, Spread, Spwrite, DRead, DWrite, Push, Pop, Movso, Movsi, Spadd, Spinc, Spdec, Not, And, Booland, Or, Xor, Shl, Shr, Bitset, Neg, Inc, Dec, Add, Sub, Mul, Inv, Eqz, Eq, Gt, Gteq, Jmpoff, Cjmpoff, Cjmp, Call, Ret}
@@ -12,7 +13,7 @@ only b k = if b then k else Undecodable
 abbrev pub alone_of : ℕ → InstructionOpcode → ℕ → InstructionOpcode
 alone_of byte k lo = only (eqb lo byte) k
 
--- a register at q: 00000qqq
+-- a register in bits 2..0: 00000qqq
 abbrev pub single_of : InstructionOpcode → ℕ → InstructionOpcode
 single_of k lo = only (ltb lo 8) k
 
@@ -24,7 +25,7 @@ general_of k lo = only (ltb (lo % 16) 8) k
 abbrev pub general_or_decimal_of : InstructionOpcode → InstructionOpcode → ℕ → InstructionOpcode
 general_or_decimal_of k d lo = if ltb (lo % 16) 8 then k else only (ltb (lo % 16) 12) d
 
--- registers at p and q: 0ppp0qqq
+-- registers in bits 6..4 and 2..0: 0ppp0qqq
 abbrev pub paired_of : InstructionOpcode → ℕ → InstructionOpcode
 paired_of k lo = if ltb lo 0x80 then general_of k lo else Undecodable
 
@@ -69,8 +70,8 @@ zero_of lo = if eqb lo 0x00 then Inv else only (eqb (lo / 8) 2) Eqz
 abbrev pub calls_of : ℕ → InstructionOpcode
 calls_of lo = if eqb (lo / 8) 2 then Call else only (eqb lo 0x18) Ret
 
--- the opcode, by the upper byte and then the lower byte. Each branch is a function of the lower byte, so that only the one that is
--- taken is computed.
+-- the opcode, by the upper byte and then the lower byte. Each branch is a function of the lower
+-- byte, so that only the one that is taken is computed.
 abbrev pub opcode_of : ℕ → ℕ → InstructionOpcode
 opcode_of hi =
     if eqb hi 0x00 then alone_of 0x00 Nop else

@@ -1,77 +1,126 @@
-// The opcode of a word, by ranges of its upper byte and then of its lower byte: the first half of decoding.
+//! The opcode of a word, by ranges of its upper byte and then of its lower byte: the first half of
+//! decoding (docs/MACHINE.md, Instructions). specs/Opcode.antt has the same choice as a definition.
+//! The second half, the operands, is in the crate `instructions`.
 #![tactic(auto)]
 
 ghost use Rattle.std.specs.Prelude.{◌≡◌, ◌<◌, ◌≤◌, ◌⊎◌};
 ghost use Rattle.opcode.specs.Opcode.{single_of, general_of, general_or_decimal_of, paired_of, memory_of, moves_of, pointer_of, stack_of, slots_of, ands_of, unary_of, zero_of, calls_of, opcode_of};
 
-// The kind of an instruction, or that a word is undecodable. One flat enum, so that it takes one byte.
+/// The kind of an instruction, or that a word is undecodable. One flat enum, so that it takes one
+/// byte. Each kind is listed with its base word, to which its operands add (docs/MACHINE.md,
+/// Instructions): a pair has its first operand in bits 6..4 and its second from bit 0 on.
 #[derive(Clone, Copy, Debug, PartialEq, Eq)]
 pub enum InstructionOpcode {
+    /// No kind: the word stands for no instruction.
     Undecodable,
 
     // Core
+    /// The word 0x0000.
     Nop,
+    /// The word 0xFFFF.
     Hlt,
+    /// From 0x2100 on: a pair of general registers.
     Mov,
+    /// From 0x2108 on: a pair of decimal registers.
     DMov,
 
     // Immediate loads
+    /// From 0x1000 on: a general register in bits 10..8, and a byte.
     Putl,
+    /// From 0x1800 on: a general register in bits 10..8, and a byte.
     Puth,
 
     // Memory
+    /// From 0x2000 on: a pair of general registers.
     Read,
+    /// From 0x2080 on: a pair of general registers.
     Write,
+    /// From 0x3000 on: a general register, and an offset of four bits.
     Spread,
+    /// From 0x3080 on: a general register, and an offset of four bits.
     Spwrite,
+    /// From 0x2008 on: a general register, and a decimal one.
     DRead,
+    /// From 0x2088 on: a general register, and a decimal one.
     DWrite,
+    /// From 0x23D0 on: a general register.
     Push,
+    /// From 0x23D8 on: a general register.
     Pop,
 
     // Special-purpose registers
+    /// From 0x2180 on: a special register, and a general one.
     Movso,
+    /// From 0x21C0 on: a special register, and a general one.
     Movsi,
+    /// From 0x21D8 on: a general register.
     Spadd,
+    /// The word 0x22D0.
     Spinc,
+    /// The word 0x22D1.
     Spdec,
 
     // Bit manipulation
+    /// From 0x4000 on: a general register.
     Not,
+    /// From 0x4100 on: a pair of general registers.
     And,
+    /// From 0x4180 on: a pair of general registers.
     Booland,
+    /// From 0x4200 on: a pair of general registers.
     Or,
+    /// From 0x4300 on: a pair of general registers.
     Xor,
+    /// From 0x4400 on: a pair of general registers.
     Shl,
+    /// From 0x4500 on: a pair of general registers.
     Shr,
+    /// From 0x4700 on: a pair of general registers.
     Bitset,
 
     // General-purpose arithmetic
+    /// From 0x4800 on: a general register.
     Neg,
+    /// From 0x4810 on: a general register.
     Inc,
+    /// From 0x4820 on: a general register.
     Dec,
+    /// From 0x4900 on: a pair of general registers.
     Add,
+    /// From 0x4A00 on: a pair of general registers.
     Sub,
+    /// From 0x4B00 on: a pair of general registers.
     Mul,
 
     // Comparison
+    /// The word 0x5000.
     Inv,
+    /// From 0x5010 on: a general register.
     Eqz,
+    /// From 0x5100 on: a pair of general registers.
     Eq,
+    /// From 0x5200 on: a pair of general registers.
     Gt,
+    /// From 0x5300 on: a pair of general registers.
     Gteq,
 
     // Branching
+    /// From 0x6000 on: a byte.
     Jmpoff,
+    /// From 0x6100 on: a byte.
     Cjmpoff,
+    /// From 0x6300 on: a general register.
     Cjmp,
+    /// From 0x6210 on: a general register.
     Call,
+    /// The word 0x6218.
     Ret,
 }
 
-// The opcode of the word with the upper byte hi and the lower byte lo. The ranges of putl and puth are tested before any other, since most
-// words of a long rule are theirs: one test tells both from the rest. The two bytes are what the ranges match, and so are two parameters:
-// a struct of the two would be taken apart in each function.
+/// The opcode of the word with the upper byte `hi` and the lower byte `lo`.
+// The ranges of putl and puth are tested before any other, since most words of a long rule are
+// theirs: one test tells both from the rest. The two bytes are what the ranges match, and so are
+// two parameters: a struct of the two would be taken apart in each function.
 pub fn opcode(hi: u8, lo: u8) -> InstructionOpcode
     ensures { result ≡ opcode_of hi lo }
 {
@@ -84,8 +133,9 @@ pub fn opcode(hi: u8, lo: u8) -> InstructionOpcode
     }
 }
 
-// Every upper byte but those of putl and puth. Its ranges are halved, since a match on many single values becomes a jump through a table,
-// which costs more in a long irregular program (docs/PERFORMANCE.md); two or three values do not.
+// Every upper byte but those of putl and puth. Its ranges are halved, since a match on many single
+// values becomes a jump through a table, which costs more in a long irregular program
+// (docs/PERFORMANCE.md); two or three values do not.
 fn other(hi: u8, lo: u8) -> InstructionOpcode
     requires { (hi < 0x10) ⊎ (0x20 ≤ hi) }
     ensures { result ≡ opcode_of hi lo }
@@ -270,8 +320,8 @@ fn comparison(hi: u8, lo: u8) -> InstructionOpcode
     }
 }
 
-// Upper byte 0x50: inv, eqz. The lower bytes below 8 are apart, so that the compiler leads eqz straight to its instruction
-// (docs/PERFORMANCE.md).
+// Upper byte 0x50: inv, eqz. The lower bytes below 8 are apart, so that the compiler leads eqz
+// straight to its instruction (docs/PERFORMANCE.md).
 fn zero(lo: u8) -> InstructionOpcode
     ensures { result ≡ zero_of lo }
 {
@@ -321,9 +371,10 @@ fn calls(lo: u8) -> InstructionOpcode
     }
 }
 
-// The next three stay apart: in one function with the bits as a const parameter, most calls needed laws of the masks, in more text.
+// The next three stay apart: in one function with the bits as a const parameter, most calls needed
+// laws of the masks, in more text.
 
-// A general register at q, and nothing else: 00000qqq.
+// A general register in bits 2..0, and nothing else: 00000qqq.
 fn single(lo: u8, opcode: InstructionOpcode) -> InstructionOpcode
     ensures { result ≡ single_of opcode lo }
 {
@@ -333,8 +384,8 @@ fn single(lo: u8, opcode: InstructionOpcode) -> InstructionOpcode
     }
 }
 
-// General registers at p and q, 0ppp0qqq. One test for both bits, so that the compiler leads each opcode straight to its instruction
-// (docs/PERFORMANCE.md).
+// General registers in bits 6..4 and 2..0, 0ppp0qqq. One test for both bits between them, so that
+// the compiler leads each opcode straight to its instruction (docs/PERFORMANCE.md).
 #[tactic(auto, using(crate::proofs::Masks::uppers))]
 fn paired(lo: u8, opcode: InstructionOpcode) -> InstructionOpcode
     ensures { result ≡ paired_of opcode lo }
