@@ -12,7 +12,8 @@ use Rattle.instructions.specs.declared.reg.SpecialPurposeRegister.TheVariants.{I
 use Rattle.instructions.specs.declared.reg.DecimalRegister.{DecimalRegister}
 use Rattle.instructions.specs.declared.reg.DecimalRegister.TheVariants.{D0, D1, D2, D3}
 
--- a sort of registers: the values of a function of them, as a list, and that two functions are equal where their lists are
+-- a sort of registers: the values of a function of them, as a list, and that two functions are
+-- equal where their lists are
 pub record Sort (R : Type 0) : Type 1 where
   pub values : {A : Type 0} → (R → A) → List A
   pub equal : {A : Type 0} (f g : R → A) → values f ≡ values g → (r : R) → f r ≡ g r

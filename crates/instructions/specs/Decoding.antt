@@ -1,5 +1,7 @@
--- The instruction that a word stands for: its opcode by the upper byte and then the lower byte, and the operands at their places
--- (document 01, Words). `decode_of` is proved to be the inverse of the table `encode_of`, so this file need not be believed.
+-- Need not be believed: encoding_laws::decoding_inverts_encoding ties it to the table of words.
+-- The instruction that a word stands for: its opcode by the upper byte and then the lower byte, and
+-- the operands at their places. `decode_of` is proved to be the inverse of the table `encode_of`.
+-- Only the number 10, `undecodable`, is no part of that: it is one of docs/NUMBERS.md.
 use Rattle.std.specs.Prelude.{ℕ, ◌/◌, ◌%◌, Result, Ok, Err}
 use Rattle.instructions.specs.Reg.{gpr_at, spr_at, dr_at}
 use Rattle.opcode.specs.Opcode.{opcode_of}
@@ -8,7 +10,8 @@ use Rattle.opcode.specs.declared.InstructionOpcode.TheVariants.{Nop, Hlt, Mov, D
 use Rattle.instructions.specs.declared.ins.Instruction.{Instruction}
 use Rattle.instructions.specs.declared.ins.encoding.Undecodable.{Undecodable}
 
--- the number of the stop that an undecodable word gives, with the word as its value (document 01, Stops)
+-- the number of the stop that an undecodable word gives, with the word as its value
+-- (docs/NUMBERS.md, The numbers)
 abbrev pub undecodable : ℕ
 undecodable = 10
 

@@ -1,4 +1,4 @@
--- The registers' numbers (document 01, Records).
+-- The registers' numbers (docs/MACHINE.md, Registers), by which words name them.
 use Rattle.std.specs.Prelude.{ℕ, ◌%◌, [], ◌∷◌, ltb, get_or, if◌then◌else◌, Option, Some, None, ◌≡◌, refl}
 use Rattle.instructions.specs.declared.reg.GeneralPurposeRegister.{GeneralPurposeRegister}
 use Rattle.instructions.specs.declared.reg.GeneralPurposeRegister.TheVariants.{R0, R1, R2, R3, R4, R5, R6, R7}
@@ -17,9 +17,9 @@ gpr_number R5 = 5
 gpr_number R6 = 6
 gpr_number R7 = 7
 
--- the register whose number is n modulo 8
+-- the register whose number is this one modulo 8
 abbrev pub gpr_at : ℕ → GeneralPurposeRegister
-gpr_at n = get_or (R0 ∷ R1 ∷ R2 ∷ R3 ∷ R4 ∷ R5 ∷ R6 ∷ R7 ∷ []) (n % 8) R7
+gpr_at number = get_or (R0 ∷ R1 ∷ R2 ∷ R3 ∷ R4 ∷ R5 ∷ R6 ∷ R7 ∷ []) (number % 8) R7
 
 abbrev pub spr_number : SpecialPurposeRegister → ℕ
 spr_number IP = 0
@@ -27,9 +27,9 @@ spr_number RP = 1
 spr_number SP = 2
 spr_number EF = 3
 
--- the register whose number is n modulo 4
+-- the register whose number is this one modulo 4
 abbrev pub spr_at : ℕ → SpecialPurposeRegister
-spr_at n = get_or (IP ∷ RP ∷ SP ∷ EF ∷ []) (n % 4) EF
+spr_at number = get_or (IP ∷ RP ∷ SP ∷ EF ∷ []) (number % 4) EF
 
 abbrev pub dr_number : DecimalRegister → ℕ
 dr_number D0 = 0
@@ -37,23 +37,23 @@ dr_number D1 = 1
 dr_number D2 = 2
 dr_number D3 = 3
 
--- the register whose number is n modulo 4
+-- the register whose number is this one modulo 4
 abbrev pub dr_at : ℕ → DecimalRegister
-dr_at n = get_or (D0 ∷ D1 ∷ D2 ∷ D3 ∷ []) (n % 4) D3
+dr_at number = get_or (D0 ∷ D1 ∷ D2 ∷ D3 ∷ []) (number % 4) D3
 
--- the register of the number n, of those that at gives for the numbers below count
+-- the register of a number, of those that `at` gives for the numbers below `count`
 abbrev pub register_of : {R : Type 0} → ℕ → (ℕ → R) → ℕ → Option R
-register_of count at n = if ltb n count then Some (at n) else None
+register_of count at number = if ltb number count then Some (at number) else None
 
 -- a register is the one of its number
-pub gpr_at_lem : (r : GeneralPurposeRegister) → gpr_at (gpr_number r) ≡ r
+pub gpr_at_lem : (reg : GeneralPurposeRegister) → gpr_at (gpr_number reg) ≡ reg
 gpr_at_lem R0 = refl
-gpr_at_lem r = refl
+gpr_at_lem reg = refl
 
-pub spr_at_lem : (r : SpecialPurposeRegister) → spr_at (spr_number r) ≡ r
+pub spr_at_lem : (reg : SpecialPurposeRegister) → spr_at (spr_number reg) ≡ reg
 spr_at_lem IP = refl
-spr_at_lem r = refl
+spr_at_lem reg = refl
 
-pub dr_at_lem : (r : DecimalRegister) → dr_at (dr_number r) ≡ r
+pub dr_at_lem : (reg : DecimalRegister) → dr_at (dr_number reg) ≡ reg
 dr_at_lem D0 = refl
-dr_at_lem r = refl
+dr_at_lem reg = refl

@@ -1,4 +1,4 @@
-// The words of the instructions.
+//! The words of the instructions (docs/MACHINE.md, Instructions).
 ghost use Rattle.std.specs.Prelude.{◌≡◌, ◌+◌, ◌*◌};
 ghost use Rattle.instructions.specs.Bounded.{Bounded};
 ghost use Rattle.instructions.specs.Encoding.{encode_of, place, slot_of, immediate_of};
@@ -8,13 +8,16 @@ use crate::ins::Instruction;
 use crate::reg::{DR, GPR, Register, SPR};
 use opcode::InstructionOpcode;
 
-// A word that stands for no instruction.
+/// What decoding answers for a word that stands for no instruction: number 10 of docs/NUMBERS.md.
 #[derive(Clone, Copy, Debug, PartialEq, Eq)]
 pub struct Undecodable {
+    /// That word.
     pub word: u16,
 }
 
 impl Instruction {
+    /// The word of the instruction. It never refuses: of a spread or spwrite offset above 15 it
+    /// keeps the low four bits.
     pub fn encode(self) -> u16
         ensures { result ≡ encode_of self }
     {
@@ -80,6 +83,7 @@ impl Instruction {
         }
     }
 
+    /// The instruction that the word stands for. Encoding it gives the same word.
     #[tactic(auto, unfolding(crate::specs::Decoding::decode_of))]
     pub fn decode(bits: u16) -> Result<Instruction, Undecodable>
         ensures { result ≡ decode_of bits }
@@ -90,7 +94,7 @@ impl Instruction {
     }
 }
 
-// Two registers at their places: p in bits 6..4, q in bits 2..0.
+// Two registers at their places: p from bit 4 on, q from bit 0 on.
 fn pair<P: Register, Q: Register>(p: P, q: Q) -> u16
     ensures { Bounded result (place (P.number p) (Q.number q)) (P.COUNT * 16 + Q.COUNT) }
 {
