@@ -1,4 +1,4 @@
--- How many words decode, and to which kinds (document 01, Words).
+-- How many words decode, and to which kinds (docs/MACHINE.md, Instructions).
 use Rattle.std.specs.Prelude.{List, [], ◌∷◌, ◌≡◌, ℕ, zero, suc, sum, replicate, Result, Ok, Err}
 use Rattle.instructions.specs.Decoding.{decode_of}
 use Rattle.instructions.specs.declared.ins.Instruction.{Instruction}

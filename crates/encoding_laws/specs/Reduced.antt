@@ -1,4 +1,4 @@
--- What encoding keeps of an instruction.
+-- What encoding keeps of an instruction: words of the claim `Inverse`, read with it.
 use Rattle.std.specs.Prelude.{ℕ, ◌%◌}
 use Rattle.instructions.specs.declared.ins.Instruction.{Instruction}
 use Rattle.instructions.specs.declared.ins.Instruction.TheVariants.{Putl, Puth, Spread, Spwrite, Jmpoff, Cjmpoff}

@@ -1,5 +1,6 @@
-// Decodes all 65,536 words, as an instruction and as the number of a register of each sort, encodes what they stand for again, and prints
-// how many are of each kind and sort.
+//! Decodes all 65,536 words, as an instruction and as the number of a register of each sort,
+//! encodes what they stand for again, and prints how many are of each kind and sort
+//! (docs/MACHINE.md, Instructions).
 #![tactic(auto)]
 
 use instructions::{DR, GPR, Instruction, Register, SPR};
@@ -38,7 +39,8 @@ fn main(rt: HostRuntime) -> io::Result<()> {
     Ok(())
 }
 
-// Counts a word in the row of its kind, and in that of each sort of which it decodes to a register whose number it is again.
+// Counts a word in the row of its kind, and in that of each sort of which it decodes to a register
+// whose number it is again.
 fn count(counts: &mut [u64; 256], w: u16) {
     let general = GPR::decode(w).is_some_and(|r| r.number() == w);
     let special = SPR::decode(w).is_some_and(|r| r.encode() == w);
@@ -70,7 +72,8 @@ fn row(w: u16) -> u8 {
     }
 }
 
-// The row of an instruction's kind: its place in `NAMES`. (No cast gives it, as instructions have operands.)
+// The row of an instruction's kind: its place in `NAMES`. (No cast gives it, as instructions have
+// operands.)
 fn kind(ins: Instruction) -> u8 {
     match ins {
         Instruction::Nop => 0,
