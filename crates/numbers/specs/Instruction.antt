@@ -1,5 +1,6 @@
--- The numbers of an instruction for a host: its kind from 0 to 42 in the order of the enum, and its operands. Documents name no such
--- numbers; a register has its own (document 01, Records).
+-- The numbers of an instruction for a host: its kind from 0 to 42 in the order of the enum, and its
+-- operands. The kinds' numbers are hosts' alone: no word holds them. A register has its own
+-- (docs/MACHINE.md, Registers).
 use Rattle.std.specs.Prelude.{ℕ, ◌+◌, ◌*◌, ◌^◌, ◌<◌, List, [], ◌∷◌, ◌≡◌, ltb, get_or, Option, Some, None, option_map, Result, Ok, Err, if◌then◌else◌}
 use Rattle.std.specs.Option.{option_zip}
 use Rattle.instructions.specs.Decoding.{undecodable}
@@ -12,7 +13,8 @@ use Rattle.instructions.specs.declared.ins.Instruction.{Instruction}
 use Rattle.instructions.specs.declared.ins.encoding.Undecodable.{Undecodable}
 use Rattle.instructions.specs.declared.ins.Instruction.TheVariants.{Nop, Hlt, Mov, DMov, Putl, Puth, Read, Write, Spread, Spwrite, DRead, DWrite, Push, Pop, Movso, Movsi, Spadd, Spinc, Spdec, Not, And, Booland, Or, Xor, Shl, Shr, Bitset, Neg, Inc, Dec, Add, Sub, Mul, Inv, Eqz, Eq, Gt, Gteq, Jmpoff, Cjmpoff, Cjmp, Call, Ret}
 
--- the number of the kind, and of the operands in the order of the instruction's fields, 0 where there is none
+-- the number of the kind, and of the operands in the order of the instruction's fields, 0 where
+-- there is none
 pub record Numbers : Type 0 where
   pub kind : ℕ
   pub first : ℕ
@@ -83,7 +85,8 @@ abbrev pub decoded_number : Result Instruction Undecodable → ℕ
 decoded_number (Ok i) = packed (numbers_of i)
 decoded_number (Err e) = undecodable * 2 ^ 24 + e.word
 
--- what a number stands for as an operand, if it stands for anything: a register of each sort, and a byte for itself
+-- what a number stands for as an operand, if it stands for anything: a register of each sort, and a
+-- byte for itself
 abbrev pub gpr : ℕ → Option GeneralPurposeRegister
 gpr n = register_of 8 gpr_at n
 
@@ -96,7 +99,8 @@ dr n = register_of 4 dr_at n
 abbrev pub byte : ℕ → Option ℕ
 byte n = Some n
 
--- a kind: the instruction that the numbers of its operands make, if they stand for any; a number that it has no operand for is not looked at
+-- a kind: the instruction that the numbers of its operands make, if they stand for any; a number
+-- that it has no operand for is not looked at
 abbrev pub Kind : Type 0
 Kind = ℕ → ℕ → Option Instruction
 
@@ -173,11 +177,13 @@ abbrev pub word_of : Option Instruction → ℕ
 word_of (Some i) = encode_of i
 word_of None = 0x10000
 
--- an operand's number is a byte, also where the kind has no such operand; of another the answer is 0x10000 too
+-- an operand's number is a byte, also where the kind has no such operand; of another the answer is
+-- 0x10000 too
 abbrev pub encoded_number : ℕ → ℕ → ℕ → ℕ
 encoded_number k a b = if ltb a 256 then (if ltb b 256 then word_of (instruction_of k a b) else 0x10000) else 0x10000
 
--- what decoding says of an instruction, encoding takes: its numbers, which are bytes as in every value of the code, encode to its word
+-- what decoding says of an instruction, encoding takes: its numbers, which are bytes as in every
+-- value of the code, encode to its word
 abbrev pub NumbersEncode : Type 0
 NumbersEncode =
     (i : Instruction) → (numbers_of i).first < 256 → (numbers_of i).second < 256

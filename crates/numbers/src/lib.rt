@@ -1,4 +1,6 @@
-// The numbers of instructions, as hosts have them: of the kinds and of the operands.
+//! The numbers of instructions, as hosts have them: of the 43 kinds in the order of the enum, and
+//! of the operands. specs/Instruction.antt has the table, and the claim that these numbers encode
+//! to the word of the instruction (docs/MACHINE.md, Instructions).
 #![tactic(auto)]
 
 ghost use Rattle.std.specs.Prelude.{◌≡◌};
@@ -28,7 +30,8 @@ fn registers<P: Register, Q: Register>(first: u8, second: u8) -> Option<(P, Q)>
     register(first).zip(register(second))
 }
 
-// A kind and two operands are three numbers everywhere, as hosts have them: a struct of the three would be taken apart at once.
+// A kind and two operands are three numbers everywhere, as hosts have them: a struct of the three
+// would be taken apart at once.
 fn numbers(kind: u8, first: u8, second: u8) -> u32
     ensures { result ≡ packed (numbers kind first second) }
 {
@@ -42,7 +45,8 @@ fn operands<P: Register, Q: Register>(kind: u8, first: P, second: Q) -> u32
     numbers(kind, number(first), number(second))
 }
 
-// The numbers of an instruction.
+/// The numbers of an instruction: its kind in bits 23..16, its first operand in bits 15..8 and its
+/// second in bits 7..0, 0 where there is none. The bits above are 0.
 pub fn pack(ins: Instruction) -> u32
     ensures { result ≡ packed (numbers_of ins) }
 {
@@ -108,7 +112,8 @@ pub fn pack(ins: Instruction) -> u32
     }
 }
 
-// The instruction of these numbers, or none.
+/// The instruction of these numbers, or none where the kind is above 42 or an operand that names a
+/// register is no number of one. An operand that the kind doesn't have is not looked at.
 pub fn instruction(kind: u8, first: u8, second: u8) -> Option<Instruction>
     ensures { result ≡ instruction_of kind first second }
 {

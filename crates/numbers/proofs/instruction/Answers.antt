@@ -1,4 +1,5 @@
--- `instruction`: where the number names no kind, and the arm of kind 2, whose number the check does not put in by itself.
+-- `instruction`: where the number names no kind, and the arm of kind 2, whose number the check does
+-- not put in by itself.
 use Rattle.std.proofs.Common.{rules}
 use Rattle.numbers.proofs.KindLaws.{no_kind}
 use Rattle.numbers.proofs.instruction.Goals as goal
