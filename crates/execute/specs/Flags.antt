@@ -1,4 +1,4 @@
--- The flags in the word ef (document 01, Records): bit 0 is halt, bit 1 is condition.
+-- The flags in the word ef (docs/MACHINE.md, Registers): bit 0 is halt, bit 1 is condition.
 use Rattle.std.specs.Prelude.{ℕ, Bool}
 use Rattle.execute.specs.Word.{has_bit, with_bit, bit}
 
@@ -14,4 +14,4 @@ abbrev pub cond_of : ℕ → Bool
 cond_of ef = has_bit ef 1
 
 abbrev pub with_cond : ℕ → Bool → ℕ
-with_cond ef b = with_bit ef 1 (bit b)
+with_cond ef holds = with_bit ef 1 (bit holds)

@@ -1,4 +1,5 @@
--- The registers that an instruction sees (document 01, Records): r0 to r7 as a list, and the four special ones.
+-- The registers that an instruction sees (docs/MACHINE.md, Registers): r0 to r7 as a list, and the
+-- four special ones.
 use Rattle.std.specs.Prelude.{ℕ, List, slice_index}
 use Rattle.instructions.specs.Reg.{gpr_number}
 use Rattle.instructions.specs.declared.reg.GeneralPurposeRegister.{GeneralPurposeRegister}
@@ -27,7 +28,7 @@ spr_of ip rp sp ef EF = ef
 
 -- the same of the record
 abbrev pub gpr : Registers → GeneralPurposeRegister → ℕ
-gpr r reg = gpr_of r.gprs reg
+gpr registers reg = gpr_of registers.gprs reg
 
 abbrev pub spr : Registers → SpecialPurposeRegister → ℕ
-spr r reg = spr_of r.ip r.rp r.sp r.ef reg
+spr registers reg = spr_of registers.ip registers.rp registers.sp registers.ef reg

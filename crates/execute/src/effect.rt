@@ -1,5 +1,6 @@
-// What an instruction asks for, in plain numbers: at most one change of the registers and one memory access, or a stop. The registers are given one by
-// one, as the core record stands above, in the emulator.
+//! What an instruction asks for, in plain numbers: at most one change of the registers and one
+//! memory access, or a stop (docs/MACHINE.md, Instructions). The registers are given one by one, as
+//! the core record stands above, in the emulator.
 ghost use Rattle.std.specs.Prelude.{◌≡◌};
 ghost use Rattle.execute.specs.Execute.{execute_of, jumped_of, to_spr};
 ghost use Rattle.execute.specs.Registers.{registers, gpr_of, spr_of};
@@ -8,40 +9,53 @@ use crate::edition::Edition;
 use crate::{flags, word};
 use instructions::{GPR, Instruction, Register, SPR};
 
+/// What an instruction does to a core, or the stop that it is.
 // The stops stand among the rest: in a `Result`, forty of the forty-three rows would say `Ok`.
 #[derive(Clone, Copy)]
 pub enum Effect {
+    /// Nothing changes.
     None,
-    // The word goes to a general register.
+    /// The word goes to the general register.
     Gpr(GPR, u16),
-    // The word goes to a special register.
+    /// The word goes to ip.
     Ip(u16),
+    /// The word goes to rp.
     Rp(u16),
+    /// The word goes to sp.
     Sp(u16),
+    /// The word goes to ef, with all of its bits.
     Ef(u16),
-    // ip goes to rp, then the address to ip.
+    /// ip goes to rp, then the address to ip.
     Call(u16),
-    // The word at the address goes to a general register, then sp rises.
+    /// The word at the address goes to a general register, then sp rises.
     Load {
+        /// The address that is read. It may be out of range, or on a page without the right.
         address: u16,
+        /// The register that gets the word.
         into: GPR,
+        /// What is added to sp, modulo 65,536: 1 at a `pop`, else 0.
         raise: u16,
     },
-    // sp falls, then the word goes to the address.
+    /// sp falls, then the word goes to the address.
     Store {
+        /// The address that is written. It may be out of range, or on a page without the right.
         address: u16,
+        /// The word that goes there.
         value: u16,
+        /// What is taken from sp, modulo 65,536: 1 at a `push`, else 0. `address` is lowered
+        /// already.
         lower: u16,
     },
-    // A decimal instruction: its word.
+    /// A decimal instruction, with its word: stop 12.
     Decimal(u16),
-    // A shift or a bit index of 16 or more, in the first edition: the amount.
+    /// A shift or a bit index of 16 or more, in the first edition, with that amount: stop 13.
     Amount(u16),
-    // The negation of 0x8000, in the first edition: that word.
+    /// The negation of 0x8000, in the first edition, with that word: stop 14.
     Negation(u16),
 }
 
-// The effect of the instruction `ins`, whose word is `word`, in an edition, on a core whose ip is already advanced.
+/// The effect of the instruction `ins`, whose word is `word`, in an edition, on a core whose ip is
+/// already advanced. It changes nothing itself.
 #[tactic(auto, unfolding(crate::specs::Execute::execute_of))]
 pub fn execute(
     ins: Instruction,
@@ -223,14 +237,14 @@ pub fn execute(
     }
 }
 
-// The word in a general register.
+/// The word in a general register, of r0 to r7 in order.
 pub fn read_gpr(gprs: &[u16; 8], reg: GPR) -> u16
     ensures { result ≡ gpr_of gprs.now reg }
 {
     gprs[reg.encode() as usize]
 }
 
-// The word in a special register, of the four.
+/// The word in a special register, of the four.
 pub fn read_spr(reg: SPR, ip: u16, rp: u16, sp: u16, ef: u16) -> u16
     ensures { result ≡ spr_of ip rp sp ef reg }
 {
