@@ -1,4 +1,5 @@
--- What the two editions have in common: the rows that ask for the edition, and the rest, which compute.
+-- What the two editions have in common: the rows that ask for the edition, and the rest, which
+-- compute.
 use Rattle.std.specs.Prelude.{◌≡◌, ℕ, ltb, eqb}
 use mathlib.Core.Path.{refl}
 use Rattle.instructions.proofs.Cases.{by_test, if_elim}

@@ -1,4 +1,4 @@
--- What the two editions have in common (document 02, CR 5).
+-- What the two editions have in common (docs/MACHINE.md, Editions).
 use Rattle.std.specs.Prelude.{ℕ, ◌≡◌}
 use Rattle.instructions.specs.declared.ins.Instruction.{Instruction}
 use Rattle.execute.specs.Execute.{execute_of}

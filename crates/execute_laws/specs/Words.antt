@@ -1,4 +1,5 @@
--- Words are 16-bit (document 01): an instruction that sees 16-bit words leaves 16-bit words, in either edition.
+-- Words are 16-bit (docs/MACHINE.md, Registers): an instruction that sees 16-bit words leaves
+-- 16-bit words, in either edition.
 use Rattle.std.specs.Prelude.{ℕ, ◌<◌, ◌≡◌, get_or, Ok}
 use Rattle.instructions.specs.Decoding.{decode_of}
 use Rattle.instructions.specs.declared.ins.Instruction.{Instruction}
@@ -19,7 +20,8 @@ pub record RegistersFit (r : Registers) : Type 0 where
   pub sp : IsWord r.sp
   pub ef : IsWord r.ef
 
--- every word that the effect puts into a register or into memory is one; a load puts what memory holds, and a stop puts nothing
+-- every word that the effect puts into a register or into memory is one; a load puts what memory
+-- holds, and a stop puts nothing
 abbrev pub EffectFits : Effect → Type 0
 EffectFits None = Unit {0}
 EffectFits (Gpr reg v) = IsWord v
@@ -34,6 +36,7 @@ EffectFits (Decimal v) = Unit {0}
 EffectFits (Amount v) = Unit {0}
 EffectFits (Negation v) = Unit {0}
 
--- w is any number that decodes: an instruction that none decodes to, as putl of 65,536, may leave more than a word
+-- w is any number that decodes: an instruction that none decodes to, as putl of 65,536, may leave
+-- more than a word
 abbrev pub Words : Type 0
 Words = (ed : Edition) (r : Registers) (w : ℕ) (i : Instruction) → RegistersFit r → decode_of w ≡ Ok i → EffectFits (execute_of ed r i w)
