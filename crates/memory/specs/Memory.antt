@@ -1,4 +1,7 @@
--- Memory with its marks, and what an access to it comes to (document 01, Records, One step and Stops, and document 02, CR 3).
+-- Memory with its marks, and what an access to it comes to: the place where it may be made, its
+-- answer, the word that a write puts, and the mark that it leaves. The same stands in words in
+-- docs/MACHINE.md, Memory and marks, and for the right that an access needs, Rights; the numbers
+-- of what is refused in docs/NUMBERS.md, The numbers.
 use Rattle.std.specs.Prelude.{◌≡◌, ℕ, ◌+◌, ◌/◌, ◌%◌, Bool, true, List, length, ◌==◌, nat_eq, nat_lt, slice_index, slice_set, if◌then◌else◌, Option, Result, Ok, Err}
 use Rattle.memory.specs.Rights.{right_of, has_right}
 use Rattle.memory.specs.declared.log.Purpose.{Purpose}
@@ -13,76 +16,91 @@ pub record Memory : Type 0 where
   pub marks : List ℕ
 
 abbrev pub lent : List ℕ → List ℕ → Memory
-lent ws ms = record { words = ws; marks = ms }
+lent words marks = record { words = words; marks = marks }
 
 -- host test 1: memory is a list of 1 to 65,536 words; whether a length is another
 unfoldable pub refused_length : ℕ → Bool
-refused_length n = if n == 0 then true else nat_lt 65536 n
+refused_length size = if size == 0 then true else nat_lt 65536 size
 
 abbrev pub length_test : ℕ → Result (Unit {0}) Refusal
-length_test n = if refused_length n then Err Refusal.MemoryLength else Ok tt
+length_test size = if refused_length size then Err Refusal.MemoryLength else Ok tt
 
--- whether a mark includes 1, read at an address that this run hadn't yet written; and whether it includes 2, written: 1 or 0
+-- whether a mark includes 1, read at an address that this run hadn't yet written; and whether it
+-- includes 2, written: 1 or 0
 abbrev pub was_read : ℕ → ℕ
-was_read m = m % 2
+was_read mark = mark % 2
 
 abbrev pub was_written : ℕ → ℕ
-was_written m = m / 2 % 2
+was_written mark = mark / 2 % 2
 
--- a mark after a read: it includes 1, unless it includes 2; a bit that is set stays set, all others keep their value
+-- a mark after a read: it includes 1, unless it includes 2; a bit that is set stays set, all others
+-- keep their value
 unfoldable pub read_mark : ℕ → ℕ
-read_mark m = if was_written m == 1 then m else (if nat_eq (was_read m) 1 then m else m + 1)
+read_mark mark = if was_written mark == 1 then mark else (if nat_eq (was_read mark) 1 then mark else mark + 1)
 
 -- a mark after a write: it includes 2
 unfoldable pub write_mark : ℕ → ℕ
-write_mark m = if was_written m == 1 then m else m + 2
+write_mark mark = if was_written mark == 1 then mark else mark + 2
 
 -- the marks after a read, and after a write, at an address
 abbrev pub mark_read : List ℕ → ℕ → List ℕ
-mark_read ms a = slice_set ms a (read_mark (slice_index ms a))
+mark_read marks address = slice_set marks address (read_mark (slice_index marks address))
 
 abbrev pub mark_write : List ℕ → ℕ → List ℕ
-mark_write ms a = slice_set ms a (write_mark (slice_index ms a))
+mark_write marks address = slice_set marks address (write_mark (slice_index marks address))
 
--- what an access comes to: its answer, and what it leaves of S, the memory or what stands in its place
-pub record Accessed (S A : Type 0) : Type 0 where
-  pub answer : A
-  pub memory : S
+-- what an access comes to: its answer, and what it leaves of the medium, the memory or what stands
+-- in its place
+pub record Accessed (Medium Answer : Type 0) : Type 0 where
+  pub answer : Answer
+  pub memory : Medium
 
-abbrev pub accessed : {S A : Type 0} → A → S → Accessed S A
-accessed x m = record { answer = x; memory = m }
+abbrev pub accessed : {Medium Answer : Type 0} → Answer → Medium → Accessed Medium Answer
+accessed answer memory = record { answer = answer; memory = memory }
 
--- the place in so many words of an access that needs a right: it may be made where its address is in range, which is tested first, and its
--- page has the right
+-- the place in so many words of an access that needs a right: it may be made where its address is
+-- in range, which is tested first, and its page has the right
 unfoldable pub place_of : Option (List ℕ) → ℕ → Right → ℕ → Result ℕ Stop
-place_of rights size r a = if nat_lt a size then (if has_right rights r a then Ok a else Err (NoRight a)) else Err (OutOfRange a)
+place_of rights size right address =
+    if nat_lt address size
+    then (if has_right rights right address then Ok address else Err (NoRight address))
+    else Err (OutOfRange address)
 
 -- an access made at its place; one that may not be made stops, and leaves all as it is, marks too
-abbrev pub at_place : {S A : Type 0} → Result ℕ Stop → (ℕ → Accessed S (Result A Stop)) → S → Accessed S (Result A Stop)
-at_place (Ok k) made m = made k
-at_place (Err s) made m = accessed (Err s) m
+abbrev pub at_place : {Medium Answer : Type 0} → Result ℕ Stop → (ℕ → Accessed Medium (Result Answer Stop)) → Medium → Accessed Medium (Result Answer Stop)
+at_place (Ok place) made memory = made place
+at_place (Err stop) made memory = accessed (Err stop) memory
 
 -- a read, which a fetch is too, gives the word, a write puts one
 abbrev pub read_at : Memory → Result ℕ Stop → Accessed Memory (Result ℕ Stop)
-read_at m at = at_place at (λ k. accessed (Ok (slice_index m.words k)) (lent m.words (mark_read m.marks k))) m
+read_at memory place =
+    at_place place
+    (λ address. accessed (Ok (slice_index memory.words address)) (lent memory.words (mark_read memory.marks address)))
+    memory
 
 abbrev pub write_at : Memory → ℕ → Result ℕ Stop → Accessed Memory (Result (Unit {0}) Stop)
-write_at m v at = at_place at (λ k. accessed (Ok tt) (lent (slice_set m.words k v) (mark_write m.marks k))) m
+write_at memory value place =
+    at_place place
+    (λ address. accessed (Ok tt) (lent (slice_set memory.words address value) (mark_write memory.marks address)))
+    memory
 
 unfoldable pub read_of : Option (List ℕ) → Memory → Purpose → ℕ → Accessed Memory (Result ℕ Stop)
-read_of rights m p a = read_at m (place_of rights (length m.words) (right_of p) a)
+read_of rights memory purpose address =
+    read_at memory (place_of rights (length memory.words) (right_of purpose) address)
 
 unfoldable pub write_of : Option (List ℕ) → Memory → ℕ → ℕ → Accessed Memory (Result (Unit {0}) Stop)
-write_of rights m a v = write_at m v (place_of rights (length m.words) Right.Write a)
+write_of rights memory address value =
+    write_at memory value (place_of rights (length memory.words) Right.Write address)
 
--- a bit that is set in the first marks is set in the second
+-- a bit that is set in the marks before is set in the marks after
 abbrev pub Below : (ℕ → ℕ) → List ℕ → List ℕ → Type 0
-Below bit p q = (a : ℕ) → bit (slice_index p a) ≡ 1 → bit (slice_index q a) ≡ 1
+Below bit before after = (address : ℕ) → bit (slice_index before address) ≡ 1 → bit (slice_index after address) ≡ 1
 
--- what every access keeps: marks only grow, their other bits keep their value, and the lengths never change
-pub record Kept (m m' : Memory) : Type 0 where
-  pub read : Below was_read m.marks m'.marks
-  pub written : Below was_written m.marks m'.marks
-  pub others : (a : ℕ) → slice_index m'.marks a / 4 ≡ slice_index m.marks a / 4
-  pub words_length : length m'.words ≡ length m.words
-  pub marks_length : length m'.marks ≡ length m.marks
+-- what every access keeps: marks only grow, their other bits keep their value, and the lengths
+-- never change
+pub record Kept (before after : Memory) : Type 0 where
+  pub read : Below was_read before.marks after.marks
+  pub written : Below was_written before.marks after.marks
+  pub others : (address : ℕ) → slice_index after.marks address / 4 ≡ slice_index before.marks address / 4
+  pub words_length : length after.words ≡ length before.words
+  pub marks_length : length after.marks ≡ length before.marks

@@ -1,4 +1,5 @@
--- How a step and a run come out, by document 01's numbers (The run; Stops), and document 02's (CR 2, CR 3 and CR 5).
+-- How a step and a run come out, and the number of each stop, host test and end by the log. The
+-- same stands in words in docs/NUMBERS.md, The numbers.
 use Rattle.std.specs.Prelude.{ℕ}
 use Rattle.instructions.specs.Decoding.{undecodable}
 use Rattle.memory.specs.declared.refusal.Refusal.{Refusal}
@@ -6,8 +7,9 @@ use Rattle.memory.specs.declared.refusal.LogEnd.{LogEnd}
 use Rattle.memory.specs.declared.stop.Stop.{Stop}
 use Rattle.memory.specs.declared.stop.Stop.TheVariants as stops
 
--- `fault` has the stop's number and the value in brackets, `refused` the number of the host test, `ended` that of an end by the log
--- (document 02, CR 2): 30, fewer than four log words are free, or 31, a replay's reads aren't the log's
+-- `fault` has the stop's number and its value, `refused` the number of the host test, `ended` that
+-- of an end by the log: 30, fewer than four log words are free, or 31, a replay's reads aren't the
+-- log's
 pub data Outcome : Type 0 where
   stepped : Outcome
   halted : Outcome
@@ -18,12 +20,12 @@ pub data Outcome : Type 0 where
 
 -- the stops of the rule words
 abbrev pub stop_of : Stop → Outcome
-stop_of (stops.Undecodable w) = fault undecodable w
-stop_of (stops.OutOfRange a) = fault 11 a
-stop_of (stops.NoRight a) = fault 33 a
-stop_of (stops.Decimal w) = fault 12 w
-stop_of (stops.Amount a) = fault 13 a
-stop_of (stops.Negation v) = fault 14 v
+stop_of (stops.Undecodable word) = fault undecodable word
+stop_of (stops.OutOfRange address) = fault 11 address
+stop_of (stops.NoRight address) = fault 33 address
+stop_of (stops.Decimal word) = fault 12 word
+stop_of (stops.Amount amount) = fault 13 amount
+stop_of (stops.Negation value) = fault 14 value
 
 -- the host tests
 abbrev pub refusal_number : Refusal → ℕ

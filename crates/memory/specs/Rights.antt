@@ -1,4 +1,6 @@
--- Rights over memory pages (document 02, CR 3).
+-- Rights over memory's pages: which right an access needs, where a page has it, and the host test
+-- of rights bytes. The same stands in words in docs/MACHINE.md, Rights, and the number of the test
+-- in docs/NUMBERS.md, The numbers.
 use Rattle.std.specs.Prelude.{ℕ, ◌/◌, ◌%◌, Bool, true, false, List, [], ◌∷◌, length, nat_eq, nat_lt, slice_index, if◌then◌else◌, Option, Some, None, option_map, Result, Ok, Err}
 use Rattle.std.specs.Borrow.{Bor}
 use Rattle.memory.specs.declared.log.Purpose.{Purpose}
@@ -18,17 +20,17 @@ right_of Purpose.Read = Right.Read
 
 -- the rights byte of the page of an address: a page is 256 addresses
 abbrev pub rights_at : List ℕ → ℕ → ℕ
-rights_at bytes a = slice_index bytes (a / 256)
+rights_at bytes address = slice_index bytes (address / 256)
 
 -- whether an address's page has a right: where no rights bytes are given, each has
 unfoldable pub has_right : Option (List ℕ) → Right → ℕ → Bool
-has_right None r a = true
-has_right (Some bytes) r a = nat_eq (rights_at bytes a / right_value r % 2) 1
+has_right None right address = true
+has_right (Some bytes) right address = nat_eq (rights_at bytes address / right_value right % 2) 1
 
 -- whether no rights byte is above 7
 unfoldable pub all_rights : List ℕ → Bool
 all_rights [] = true
-all_rights (b ∷ bs) = if nat_lt 7 b then false else all_rights bs
+all_rights (byte ∷ rest) = if nat_lt 7 byte then false else all_rights rest
 
 -- host test 32: there are 256 rights bytes, none above 7; whether they are others
 unfoldable pub refused_rights : List ℕ → Bool
@@ -44,9 +46,9 @@ abbrev pub rights_test : List ℕ → Result (List ℕ) Refusal
 rights_test bytes = if refused_rights bytes then Err Refusal.Rights else Ok bytes
 
 abbrev pub tested_bytes : Result (Bor (List ℕ)) Refusal → Result (List ℕ) Refusal
-tested_bytes (Ok b) = Ok b.now
-tested_bytes (Err r) = Err r
+tested_bytes (Ok bytes) = Ok bytes.now
+tested_bytes (Err refusal) = Err refusal
 
 -- the rights bytes that are lent
 abbrev pub bytes_of : Option (Bor (List ℕ)) → Option (List ℕ)
-bytes_of = option_map (λ b. b.now)
+bytes_of = option_map (λ bytes. bytes.now)

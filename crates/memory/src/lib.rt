@@ -1,4 +1,7 @@
-// Memory with its marks, the rights over its pages and the log of its reads: what an access comes to, and why one or a call is refused.
+//! Memory with its marks, the rights over its pages and the log of its reads: what an access comes
+//! to (docs/MACHINE.md, Memory and marks, Rights, Logs and replays), and why an access or a call is
+//! refused (docs/NUMBERS.md). `store` says what a run reads and writes, `memory` and `logging` are
+//! lent memory without and with a log, and `stop` and `refusal` have the numbers.
 #![tactic(auto)]
 
 mod log;

@@ -1,4 +1,4 @@
-// Lent memory with its marks, and the log of its reads.
+//! Lent memory with its marks, and the log of its reads.
 ghost use Rattle.std.specs.Prelude.{◌≡◌, ◌+◌, ◌≤◌, length, refl};
 ghost use Rattle.memory.specs.Log.{is_full, words};
 ghost use Rattle.memory.specs.Memory.{Memory, lent};
@@ -13,15 +13,22 @@ use crate::rights::{Right, Rights};
 use crate::stop::Stop;
 use crate::store::Store;
 
-// The words and as many marks, and a buffer with so many log words at its front. (A `MarkedMemory` in it would not do: of a reference two
-// structs deep the check doesn't tell what it leaves in what was lent.)
+/// Lent memory whose reads are logged: the words and as many marks, and a buffer with so many log
+/// words at its front. (A `MarkedMemory` in it would not do: of a reference two structs deep the
+/// check doesn't tell what it leaves in what was lent.)
 #[derive(Drop)]
 pub struct LoggedMemory<'a> {
+    /// The words, by address from 0.
     pub words: &'a mut [u16],
+    /// The mark of each.
     pub marks: &'a mut [u8],
+    /// The buffer for the log.
     pub log: &'a mut [u32],
+    /// The number of its words that are log words, from its front.
     pub logged: usize,
+    /// There is a mark for each word.
     pub ghost marked: { length marks.now ≡ length words.now },
+    /// The log stands in its buffer.
     pub ghost within: { logged ≤ length log.now },
 }
 
@@ -56,7 +63,7 @@ impl Store for LoggedMemory<'_> {
         Ok(())
     }
 
-    // Fewer than four words are free.
+    // The log is full where fewer than four words are free.
     fn log_end(&self) -> Option<LogEnd> {
         if self.log.len() - self.logged < 4 {
             Some(LogEnd::Full)

@@ -1,4 +1,4 @@
-// Lent memory with its marks.
+//! Lent memory with its marks, and the place of an access to it.
 ghost use Rattle.std.specs.Prelude.{◌≡◌, length, false, refl};
 ghost use Rattle.memory.specs.Memory.{Memory, read_mark, write_mark, place_of, lent};
 ghost use Rattle.memory.specs.Store.{memory_store};
@@ -11,7 +11,7 @@ use crate::rights::{Right, Rights, has_right};
 use crate::stop::Stop;
 use crate::store::Store;
 
-// A mark after a read: bit 0 is set, unless bit 1 is.
+/// A mark after a read: bit 0 is set, unless bit 1 is.
 #[tactic(auto, unfolding(crate::specs::Memory::read_mark))]
 pub fn read_mark(m: u8) -> u8
     ensures { result ≡ read_mark m }
@@ -23,7 +23,7 @@ pub fn read_mark(m: u8) -> u8
     }
 }
 
-// A mark after a write: bit 1 is set.
+/// A mark after a write: bit 1 is set.
 #[tactic(auto, unfolding(crate::specs::Memory::write_mark))]
 pub fn write_mark(m: u8) -> u8
     ensures { result ≡ write_mark m }
@@ -31,7 +31,8 @@ pub fn write_mark(m: u8) -> u8
     if m / 2 % 2 == 1 { m } else { m + 2 }
 }
 
-// The place in so many words of an access that needs a right, if it may be made.
+/// The place in so many words of an access that needs a right. The error is the stop: out of range,
+/// which is tested first, or no right.
 #[tactic(auto, unfolding(crate::specs::Memory::place_of))]
 pub fn place(size: usize, rights: Rights<'_>, right: Right, address: u16) -> Result<usize, Stop>
     ensures { result ≡ place_of (bytes_of rights.entry) size right address }
@@ -46,11 +47,14 @@ pub fn place(size: usize, rights: Rights<'_>, right: Right, address: u16) -> Res
     Ok(at)
 }
 
-// The words and as many marks.
+/// Lent memory without a log: the words and as many marks.
 #[derive(Drop)]
 pub struct MarkedMemory<'a> {
+    /// The words, by address from 0.
     pub words: &'a mut [u16],
+    /// The mark of each.
     pub marks: &'a mut [u8],
+    /// There is a mark for each word.
     pub ghost marked: { length marks.now ≡ length words.now },
 }
 

@@ -1,23 +1,25 @@
-// Why a call is refused, and how a run ends by its log: enums with the documents' numbers. (`number` is a method, as a register's is: `u8::from` wouldn't
-// say what it is the number of.)
+//! Why a call is refused, and how a run ends by its log: enums with the numbers of docs/NUMBERS.md.
+//! (`number` is a method, as a register's is: `u8::from` wouldn't say what it is the number of.)
 ghost use Rattle.std.specs.Prelude.{◌≡◌};
 ghost use Rattle.memory.specs.Memory.{length_test};
 ghost use Rattle.memory.specs.Outcome.{refusal_number, log_end_number};
 
-// A host test that refuses a call, with its number.
+/// A host test that refuses a call, with its number. A refused call leaves what it was lent as it
+/// is (docs/NUMBERS.md, What is left unchanged).
 #[derive(Clone, Copy, Debug, PartialEq, Eq)]
 pub enum Refusal {
-    // The length of memory isn't 1 to 65,536.
+    /// The length of memory isn't 1 to 65,536.
     MemoryLength = 1,
-    // That of the marks isn't memory's.
+    /// That of the marks isn't memory's.
     MarksLength = 2,
-    // The rights aren't 256 bytes of at most 7.
+    /// The rights aren't 256 bytes of at most 7.
     Rights = 32,
-    // The edition is neither 1 nor 2.
+    /// The edition is neither 1 nor 2.
     Edition = 34,
 }
 
 impl Refusal {
+    /// The number that hosts get: 1, 2, 32 or 34.
     pub fn number(self) -> u8
         ensures { result ≡ refusal_number self }
     {
@@ -25,16 +27,17 @@ impl Refusal {
     }
 }
 
-// How a run ends by its log, with its number.
+/// How a run ends by its log, with its number.
 #[derive(Clone, Copy, Debug, PartialEq, Eq)]
 pub enum LogEnd {
-    // Fewer than four of its words are free.
+    /// Fewer than four of its words are free.
     Full = 30,
-    // A replay's reads aren't its words.
+    /// A replay's reads aren't its words.
     Mismatch = 31,
 }
 
 impl LogEnd {
+    /// The number that hosts get: 30 or 31.
     pub fn number(self) -> u8
         ensures { result ≡ log_end_number self }
     {
@@ -42,7 +45,7 @@ impl LogEnd {
     }
 }
 
-// Host test 1: memory has 1 to 65,536 words.
+/// Host test 1: memory has 1 to 65,536 words.
 #[tactic(auto, using(crate::proofs::Laws::length_accepted, crate::proofs::Laws::length_none, crate::proofs::Laws::length_past))]
 pub fn check_length(words: usize) -> Result<(), Refusal>
     ensures { result ≡ length_test words }

@@ -1,24 +1,24 @@
-// Why a step stops.
+//! Why a step stops, and its numbers (docs/NUMBERS.md, The numbers).
 ghost use Rattle.std.specs.Prelude.{◌≡◌};
 ghost use Rattle.memory.specs.Outcome.{stop_of, fault};
 ghost use Rattle.memory.specs.declared.stop.Stop.TheVariants as stops;
 
 use instructions::Undecodable;
 
-// A stop, with the value that is returned too.
+/// A stop, with the value that is returned too.
 #[derive(Clone, Copy, Debug, PartialEq, Eq)]
 pub enum Stop {
-    // The word.
+    /// 10: the word, which is no instruction.
     Undecodable(u16),
-    // The address.
+    /// 11: the address, which is past memory.
     OutOfRange(u16),
-    // The address, whose page hasn't the right.
+    /// 33: the address, whose page hasn't the right.
     NoRight(u16),
-    // The word of a decimal instruction.
+    /// 12: the word of a decimal instruction.
     Decimal(u16),
-    // The amount of a shift, or the index of a bit, of 16 or more, in the first edition.
+    /// 13: the amount of a shift, or the index of a bit, of 16 or more, in the first edition.
     Amount(u16),
-    // The word that has no negation in the first edition, 0x8000.
+    /// 14: the word that has no negation in the first edition, 0x8000.
     Negation(u16),
 }
 
@@ -30,10 +30,12 @@ impl From<Undecodable> for Stop {
     }
 }
 
-// A stop by its number, as hosts get it.
+/// A stop by its number, as hosts get it.
 #[derive(Clone, Copy)]
 pub struct Fault {
+    /// 10 to 14, or 33.
     pub number: u8,
+    /// The word, address or amount that the stop has.
     pub value: u16,
 }
 

@@ -1,4 +1,5 @@
--- The replay of a run's log is the run: the run on memory and the run on its log go side by side. Nothing here looks at an instruction.
+-- The replay of a run's log is the run: the run on memory and the run on its log go side by side.
+-- Nothing here looks at an instruction.
 use Prim.Native.Nat.{ℕ, ◌%◌}
 use Rattle.std.specs.Prelude.{false, Result, Ok, Option}
 use mathlib.Core.List.{List, [], ◌++◌, append-nil, append_assoc, append_cancel_left}
@@ -30,7 +31,8 @@ use Rattle.run_laws.proofs.Simulation.{ReadFits, Same, Simulates, RanTwins, twin
 use Rattle.replay_laws.specs.Replay.{CoreFits, MemoryFits, seen_again, ReplayIsRun}
 use Rattle.replay_laws.proofs.Words.{set_fits, load_fits, plan_fits, access_fits}
 
--- F is the log of the whole run. In mid-run the tape has what is left of it, and memory holds words.
+-- F is the log of the whole run. In mid-run the tape has what is left of it, and memory holds
+-- words.
 record OnTape (F l : List ℕ) (m : Memory) (t : Tape) : Type 0 where
   size : t.size ≡ length m.words
   rest : F ≡ l ++ t.rest
@@ -85,7 +87,7 @@ module _ (rights : Option (List ℕ)) (F : List ℕ) where
   unfolding write_of write_tape
   twin_write l m t a v w h =
       place_both rights Right.Write a (sym h.size)
-      (λ (k k' : Result ℕ Stop). Same (write_at m v k) (at_place {A = Unit {0}} k' (λ k. accessed (Ok tt) t) t) (OnTape F l))
+      (λ (k k' : Result ℕ Stop). Same (write_at m v k) (at_place {Answer = Unit {0}} k' (λ k. accessed (Ok tt) t) t) (OnTape F l))
       (λ _ _. record { answer = refl; kept = record { size = h.size ∙ sym (length-set m.words a v); rest = h.rest; fits = set_fits m.words a v w h.fits } })
       (λ _. record { answer = refl; kept = h })
 
