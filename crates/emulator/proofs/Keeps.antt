@@ -1,5 +1,5 @@
--- What every access leads to, a cycle and a run lead to: a relation of the log and memory, or what stands in its place, before and after. So
--- marks only grow and the lengths never change.
+-- What every access leads to, a cycle and a run lead to: a relation of the log and memory, or what
+-- stands in its place, before and after. So marks only grow and the lengths never change.
 use Rattle.std.specs.Prelude.{◌≡◌, ℕ, zero, suc, ◌+◌, Bool, eqb, List, [], ◌++◌, length, Option, None, Result, Ok, Err}
 use mathlib.Core.List.{append-nil, append_assoc}
 use mathlib.Core.Path.{refl, ◌∙◌}

@@ -118,7 +118,8 @@ module _ {S : Type 0} (on : Store S) (plan : Core → ℕ → Plan) (over : List
             let b = ends_by s in
             ends (rw b.1 (sym (run_over on plan over why c m n now.log most (sym p ∙ q) under b.0) ∙ now.rest))
 
-        -- a turn that neither halt nor the limit nor the log stops: what it leaves, and what it logged is noted too
+        -- a turn that neither halt nor the limit nor the log stops: what it leaves, and what it
+        -- logged is noted too
         abbrev cycled : Logged (Turn S)
         cycled = cycle_of on plan c m
 

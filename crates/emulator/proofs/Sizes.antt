@@ -1,4 +1,5 @@
--- A log never passes the buffer that is lent for it: a cycle logs at most four words, and a turn is made only where four are free.
+-- A log never passes the buffer that is lent for it: a cycle logs at most four words, and a turn is
+-- made only where four are free.
 use Rattle.std.specs.Prelude.{ℕ, zero, suc, ◌+◌, ◌-◌, ◌≤◌, List, ◌++◌, length, Result, Ok, Err}
 use native.Mathlib.Omega.{arith}
 use lib.ListN.{length-append}

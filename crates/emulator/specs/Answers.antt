@@ -1,3 +1,4 @@
+-- Need not be believed: nilguseg_c::nilguseg_step and nilguseg_run promise the numbers without it.
 -- What each answer of the code says of how a step and a run come out.
 use Rattle.std.specs.Prelude.{ℕ, ◌==◌, if◌then◌else◌, Result, Ok, Err}
 use Rattle.memory.specs.Outcome.{Outcome, stepped, halted, limit, fault, refused, ended, stop_of, refusal_number, log_end_number}
@@ -9,31 +10,31 @@ use Rattle.emulator.specs.declared.core_record.Answer.TheVariants as answers
 
 -- what a cycle of a core that runs comes to
 abbrev pub progress_of : Result (Unit {0}) Stop → Outcome
-progress_of (Ok u) = stepped
-progress_of (Err s) = stop_of s
+progress_of (Ok unit) = stepped
+progress_of (Err stop) = stop_of stop
 
 abbrev pub answer_of : Answer → Outcome
 answer_of answers.Stepped = stepped
 answer_of answers.Halted = halted
-answer_of (answers.Fault s) = stop_of s
-answer_of (answers.Refused r) = refused (refusal_number r)
+answer_of (answers.Fault stop) = stop_of stop
+answer_of (answers.Refused refusal) = refused (refusal_number refusal)
 
 abbrev pub end_of : End → Outcome
 end_of ends.Halted = halted
 end_of ends.Limit = limit
-end_of (ends.Fault s) = stop_of s
-end_of (ends.Refused r) = refused (refusal_number r)
-end_of (ends.Log e) = ended (log_end_number e)
+end_of (ends.Fault stop) = stop_of stop
+end_of (ends.Refused refusal) = refused (refusal_number refusal)
+end_of (ends.Log end) = ended (log_end_number end)
 
--- a step's outcome, from the steps counted and the end of a run of at most one: it stepped if it was counted, which the limit says too. (It has
--- no log that could be full.)
+-- a step's outcome, from the steps counted and the end of a run of at most one: it stepped if it
+-- was counted, which the limit says too. (It has no log that could be full.)
 abbrev pub uncounted : Outcome → Outcome
 uncounted stepped = stepped
 uncounted halted = halted
 uncounted limit = stepped
-uncounted (fault n v) = fault n v
-uncounted (refused n) = refused n
-uncounted (ended n) = stepped
+uncounted (fault number value) = fault number value
+uncounted (refused number) = refused number
+uncounted (ended number) = stepped
 
 abbrev pub answered_of : ℕ → Outcome → Outcome
-answered_of n o = if n == 1 then stepped else uncounted o
+answered_of steps end = if steps == 1 then stepped else uncounted end

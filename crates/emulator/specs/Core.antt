@@ -1,4 +1,5 @@
--- The core record (document 01, Records).
+-- The core record: its twelve registers, how each is read and changed, and the two flags of ef. The
+-- same stands in words in docs/MACHINE.md, Registers.
 use Rattle.std.specs.Prelude.{ℕ, Bool, List, replicate, slice_set}
 use Rattle.instructions.specs.declared.reg.GeneralPurposeRegister.{GeneralPurposeRegister}
 use Rattle.instructions.specs.declared.reg.SpecialPurposeRegister.{SpecialPurposeRegister}
@@ -18,27 +19,27 @@ new_core = core_of (replicate 8 0) 0 0 0xFFFF 0
 
 -- a general register, and the core with it changed
 abbrev pub read_gpr : Core → GeneralPurposeRegister → ℕ
-read_gpr c r = gpr_of c.gprs r
+read_gpr core register = gpr_of core.gprs register
 
 abbrev pub write_gpr : Core → GeneralPurposeRegister → ℕ → Core
-write_gpr c r v = core_of (slice_set c.gprs (gpr_number r) v) c.ip c.rp c.sp c.ef
+write_gpr core register value = core_of (slice_set core.gprs (gpr_number register) value) core.ip core.rp core.sp core.ef
 
 -- a special register, and the core with it changed
 abbrev pub read_spr : Core → SpecialPurposeRegister → ℕ
-read_spr c r = spr_of c.ip c.rp c.sp c.ef r
+read_spr core register = spr_of core.ip core.rp core.sp core.ef register
 
 abbrev pub write_spr : Core → SpecialPurposeRegister → ℕ → Core
-write_spr c IP v = core_of c.gprs v c.rp c.sp c.ef
-write_spr c RP v = core_of c.gprs c.ip v c.sp c.ef
-write_spr c SP v = core_of c.gprs c.ip c.rp v c.ef
-write_spr c EF v = core_of c.gprs c.ip c.rp c.sp v
+write_spr core IP value = core_of core.gprs value core.rp core.sp core.ef
+write_spr core RP value = core_of core.gprs core.ip value core.sp core.ef
+write_spr core SP value = core_of core.gprs core.ip core.rp value core.ef
+write_spr core EF value = core_of core.gprs core.ip core.rp core.sp value
 
 -- bit 0 of ef is halt, bit 1 is condition
 abbrev pub is_halted : Core → Bool
-is_halted c = halt_of c.ef
+is_halted core = halt_of core.ef
 
 abbrev pub is_cond_set : Core → Bool
-is_cond_set c = cond_of c.ef
+is_cond_set core = cond_of core.ef
 
 abbrev pub set_cond : Core → Bool → Core
-set_cond c b = write_spr c EF (with_cond c.ef b)
+set_cond core holds = write_spr core EF (with_cond core.ef holds)

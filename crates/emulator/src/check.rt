@@ -1,4 +1,5 @@
-// The host tests of a step and of a run, in number order. What passes them comes back in the form that the loop takes.
+//! The host tests of a step and of a run, in their order (docs/NUMBERS.md, The order of the tests).
+//! What passes them comes back in the form that the loop takes.
 ghost use Rattle.std.specs.Prelude.{◌≡◌, IfOk, None, Some};
 ghost use Rattle.execute.specs.Edition.{edition_of};
 ghost use Rattle.memory.specs.Memory.{lent};
@@ -7,7 +8,7 @@ ghost use Rattle.emulator.specs.Machine.{refusal_of, refusal_with, edition_test,
 use execute::Edition;
 use memory::{Refusal, check_length, check_rights};
 
-// 1 and 2.
+// Host tests 1 and 2.
 fn check_lengths(memory: &[u16], marks: &[u8]) -> Result<(), Refusal>
     ensures { test_number result ≡ refusal_of (lent memory.now marks.now) }
 {
@@ -18,14 +19,15 @@ fn check_lengths(memory: &[u16], marks: &[u8]) -> Result<(), Refusal>
     Ok(())
 }
 
-// 34: the edition of that number.
+/// Host test 34: the edition of that number, 1 or 2.
 pub fn check_edition(number: u16) -> Result<Edition, Refusal>
     ensures { result ≡ edition_test number }
 {
     Edition::at(number).ok_or(Refusal::Edition)
 }
 
-// Those of a step, and of a run without rights.
+/// The host tests of a step, and of a run without rights: 1, 2 and 34. Of the lent lists they look
+/// at the lengths alone.
 pub fn check(memory: &[u16], marks: &[u8], edition: u16) -> Result<Edition, Refusal>
     ensures number { test_number result ≡ refusal_with None edition (lent memory.now marks.now) }
     ensures edition { IfOk result (λ e. e ≡ edition_of edition) }
@@ -34,7 +36,8 @@ pub fn check(memory: &[u16], marks: &[u8], edition: u16) -> Result<Edition, Refu
     check_edition(edition)
 }
 
-// Those of a run with rights, which are tested before the edition.
+/// The host tests of a run with rights, which are tested before the edition: 1, 2, 32 and 34. The
+/// rights bytes come back as the 256 that they are.
 pub fn check_guarded<'a>(
     memory: &[u16],
     marks: &[u8],

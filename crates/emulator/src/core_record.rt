@@ -1,4 +1,4 @@
-// The core record: its registers, one step, and the run.
+//! The core record: its registers, one step, and the run.
 ghost use Rattle.std.specs.Prelude.{◌≡◌, [], length};
 ghost use Rattle.emulator.specs.Core.{new_core, read_gpr, write_gpr, read_spr, write_spr, is_halted, is_cond_set, set_cond};
 ghost use Rattle.memory.specs.Log.{Room, written};
@@ -15,46 +15,64 @@ use execute::Edition;
 use instructions::{GPR, Register, SPR};
 use memory::{LoggedMemory, MarkedMemory, Refusal, Rights, Stop};
 
+/// The core record: the twelve registers, 16 bits each (docs/MACHINE.md, Registers).
 #[derive(Clone, Copy, Debug, PartialEq, Eq)]
 pub struct Core {
+    /// The general registers, r0 to r7.
     pub gprs: [u16; 8],
+    /// The address of the next instruction.
     pub ip: u16,
+    /// Where `ret` goes.
     pub rp: u16,
+    /// The top of the stack.
     pub sp: u16,
+    /// The flags: bit 0 is halt, bit 1 the condition; the others mean nothing.
     pub ef: u16,
 }
 
-// What a step answers.
+/// What a step answers.
 #[derive(Clone, Copy, Debug, PartialEq, Eq)]
 pub enum Answer {
+    /// An instruction was executed, `hlt` too.
     Stepped,
+    /// The core was halted, and nothing is changed.
     Halted,
+    /// The step stopped; what it did before stays done (docs/NUMBERS.md, What is left unchanged).
     Fault(Stop),
+    /// A host test refused the call, and nothing is changed.
     Refused(Refusal),
 }
 
+/// A step: the core that it leaves, and its answer.
 #[derive(Clone, Copy, Debug, PartialEq, Eq)]
 pub struct Step {
+    /// The core after it; as it was given where the step is refused or the core halted.
     pub core: Core,
+    /// How it came out.
     pub answer: Answer,
 }
 
-// A run: the core that it leaves, the steps counted, and its end.
+/// A run: the core that it leaves, the steps counted, and its end.
 #[derive(Clone, Copy, Debug, PartialEq, Eq)]
 pub struct Run {
+    /// The core after it; as it was given where the run is refused.
     pub core: Core,
+    /// The steps counted, at most the limit; one that faults isn't.
     pub steps: u32,
+    /// How it ended.
     pub end: End,
 }
 
-// A run with a log, and the number of its log words.
+/// A run with a log, and the number of its log words.
 #[derive(Clone, Copy, Debug, PartialEq, Eq)]
 pub struct LoggedRun {
+    /// The run.
     pub run: Run,
+    /// How many words of the buffer are its log, from the front: two for each read.
     pub logged: usize,
 }
 
-// A call that runs nothing: the core as it was given, and why.
+/// A call that runs nothing: the core as it was given, 0 steps, and why.
 pub fn no_run(core: Core, end: End) -> Run
     ensures { result ≡ record { core = core; steps = 0; end = end } }
 {
@@ -75,7 +93,8 @@ fn no_logged_run(core: Core, refusal: Refusal) -> LoggedRun
     }
 }
 
-// The turns of a run or a step without a log. All call this one function, so that the loop stands in it alone, on slices (docs/PERFORMANCE.md).
+// The turns of a run or a step without a log. All call this one function, so that the loop stands
+// in it alone, on slices (docs/PERFORMANCE.md).
 fn marked_turns(
     core: Core,
     words: &mut [u16],
@@ -134,6 +153,7 @@ fn answered(steps: u32, end: End) -> Answer
 }
 
 impl Core {
+    /// A fresh core: all 0 but sp, which is 0xFFFF.
     pub fn new() -> Self
         ensures { result ≡ new_core }
     {
@@ -146,12 +166,14 @@ impl Core {
         }
     }
 
+    /// The word in a general register.
     pub fn read_gpr(self, reg: GPR) -> u16
         ensures { result ≡ read_gpr self reg }
     {
         execute::read_gpr(&self.gprs, reg)
     }
 
+    /// The core with the word in a general register.
     pub fn write_gpr(mut self, reg: GPR, value: u16) -> Self
         ensures { result ≡ write_gpr self reg value }
     {
@@ -159,12 +181,14 @@ impl Core {
         self
     }
 
+    /// The word in a special register.
     pub fn read_spr(self, reg: SPR) -> u16
         ensures { result ≡ read_spr self reg }
     {
         execute::read_spr(reg, self.ip, self.rp, self.sp, self.ef)
     }
 
+    /// The core with the word in a special register: in ef all 16 bits, halt included.
     pub fn write_spr(mut self, reg: SPR, value: u16) -> Self
         ensures { result ≡ write_spr self reg value }
     {
@@ -177,18 +201,21 @@ impl Core {
         self
     }
 
+    /// Whether the halt bit is set.
     pub fn is_halted(self) -> bool
         ensures { result ≡ is_halted self }
     {
         execute::is_halted(self.ef)
     }
 
+    /// Whether the condition holds.
     pub fn is_cond_set(self) -> bool
         ensures { result ≡ is_cond_set self }
     {
         execute::is_cond_set(self.ef)
     }
 
+    /// The core with the condition set or cleared; no other bit of ef changes.
     pub fn set_cond(mut self, val: bool) -> Self
         ensures { result ≡ set_cond self val }
     {
@@ -196,7 +223,9 @@ impl Core {
         self
     }
 
-    // One step: it adds to the marks without clearing them. Where a host test refuses, and where the core is halted, nothing changes.
+    /// One step (docs/MACHINE.md, One step), in the edition of that number, 1 or 2. It adds to the
+    /// marks without clearing them. Where a host test refuses, and where the core is halted,
+    /// nothing changes.
     #[tactic(auto, using(crate::proofs::Laws::accepted))]
     pub fn step(self, memory: &mut [u16], marks: &mut [u8], edition: u16) -> Step
         ensures { turn (answer_of result.answer) result.core (lent memory.new marks.new) ≡ step_of plan_of self (lent memory.old marks.old) edition }
@@ -217,7 +246,8 @@ impl Core {
         }
     }
 
-    // Runs the core: all marks are set to 0, then steps are made until it halts, the limit is reached, or a step faults.
+    /// Runs the core (docs/MACHINE.md, The run): all marks are set to 0, then steps are made until
+    /// it halts, the limit is reached, or a step faults. A refused run changes nothing.
     #[tactic(auto, using(crate::proofs::Laws::accepted))]
     pub fn run(self, memory: &mut [u16], marks: &mut [u8], edition: u16, limit: u32) -> Run
         ensures { ran (end_of result.end) result.steps result.core (lent memory.new marks.new) ≡ run_of plan_of self (lent memory.old marks.old) edition limit }
@@ -230,7 +260,9 @@ impl Core {
         marked_turns(self, memory, marks, None, limit, edition)
     }
 
-    // The run with a log of its reads, which is written to the front of the lent one. It also ends where fewer than four words are free.
+    /// The run with a log of its reads, which is written to the front of the lent one
+    /// (docs/MACHINE.md, Logs and replays). It also ends where fewer than four words are free. The
+    /// words past the log keep their value, and a refused run changes nothing.
     #[tactic(auto, using(crate::proofs::Laws::accepted))]
     pub fn run_logged(
         self,
@@ -250,7 +282,9 @@ impl Core {
         logged_turns(self, memory, marks, None, limit, edition, log)
     }
 
-    // The run with rights over memory's pages: an access that the rights don't allow is a fault.
+    /// The run with rights over memory's pages (docs/MACHINE.md, Rights): 256 bytes, one for each
+    /// page of 256 addresses. An access that they don't allow is a fault. A refused run changes
+    /// nothing.
     #[tactic(auto, using(crate::proofs::Laws::accepted))]
     pub fn run_guarded(
         self,
@@ -270,7 +304,7 @@ impl Core {
         marked_turns(self, memory, marks, Some(rights), limit, edition)
     }
 
-    // The run with rights and with a log.
+    /// The run with rights and with a log: what `run_guarded` and `run_logged` say holds of it.
     #[tactic(auto, using(crate::proofs::Laws::accepted))]
     pub fn run_logged_guarded(
         self,

@@ -1,4 +1,5 @@
-// One cycle and the loop of cycles, on any store. The loop has the core in a variable of its own and lends it to each cycle.
+//! One cycle and the loop of cycles, on any store. The loop has the core in a variable of its own
+//! and lends it to each cycle.
 ghost use Rattle.std.specs.Prelude.{◌≡◌, ◌++◌, [], List, ℕ};
 ghost use Rattle.emulator.specs.Answers.{progress_of, end_of};
 ghost use Rattle.memory.specs.Rights.{bytes_of};
@@ -9,13 +10,18 @@ use execute::{Edition, Effect, execute};
 use instructions::{Instruction, Register};
 use memory::{LogEnd, Purpose, Refusal, Rights, Stop, Store};
 
-// How a run ends.
+/// How a run ends.
 #[derive(Clone, Copy, Debug, PartialEq, Eq)]
 pub enum End {
+    /// The halt bit is set. It is tested before the limit.
     Halted,
+    /// As many steps as the limit were counted, and halt is clear.
     Limit,
+    /// A step stopped, and isn't counted.
     Fault(Stop),
+    /// A host test refused the call, and nothing was run.
     Refused(Refusal),
+    /// The log ended the run: it is full, or a replay's reads aren't its words.
     Log(LogEnd),
 }
 
@@ -83,8 +89,9 @@ fn cycle<S: Store>(
     obey(core, effect, store, rights)
 }
 
-// Cycles up to the limit: each turn tests halt first, then the limit, then the log. A cycle that faults isn't counted. (A `for` up to the limit would test
-// the limit before halt.)
+/// Cycles up to the limit, on a store, whose marks it doesn't set to 0: each turn tests halt first,
+/// then the limit, then the log. A cycle that faults isn't counted. (A `for` up to the limit would
+/// test the limit before halt.)
 pub fn turns<S: Store>(
     mut core: Core,
     store: &mut S,

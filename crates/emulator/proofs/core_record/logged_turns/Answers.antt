@@ -1,4 +1,5 @@
--- `logged_turns`: what the loop leaves in memory, in the marks and in the log stands in what was lent.
+-- `logged_turns`: what the loop leaves in memory, in the marks and in the log stands in what was
+-- lent.
 use mathlib.Core.Path.{sym}
 use Rattle.std.proofs.Common.{rules}
 use Rattle.emulator.specs.Machine.{ran}
