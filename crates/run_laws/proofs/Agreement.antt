@@ -1,5 +1,6 @@
--- Two runs agree: they go side by side over the same core and marks, while their memories are alike. A word is the same in both if it was
--- written, or if the first run's final marks say that it is read. Nothing here looks at an instruction.
+-- Two runs agree: they go side by side over the same core and marks, while their memories are
+-- alike. A word is the same in both if it was written, or if the first run's final marks say that
+-- it is read. Nothing here looks at an instruction.
 use Rattle.std.specs.Prelude.{◌≡◌, ◌≢◌, ℕ, zero, suc, ◌<◌, List, [], length, get_or, set, replicate, Option, Result, Ok, Err}
 use mathlib.Core.Path.{refl, sym, ap, ◌∙◌, subst}
 use mathlib.Core.Logic.{⊎_elim}

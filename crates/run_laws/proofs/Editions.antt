@@ -1,4 +1,5 @@
--- The two editions in whole runs: turn by turn they do the same, until the first stops by 13 or 14. Nothing here looks at an instruction.
+-- The two editions in whole runs: turn by turn they do the same, until the first stops by 13 or 14.
+-- Nothing here looks at an instruction.
 use Rattle.std.specs.Prelude.{if◌then◌else◌, ◌≡◌, ℕ, zero, suc, ◌+◌, Bool, true, false, eqb, ltb, List, [], ◌++◌, length, Option, Result, Ok, Err}
 use mathlib.Core.Path.{refl, sym, ap, ◌∙◌}
 use Rattle.std.proofs.lemmas.Bool.{true≢false}
@@ -54,7 +55,8 @@ without_overflow : {r : Logged (Ran Memory)} → overflows r.result.end ≡ fals
 unfolding overflows
 without_overflow e = record { amount = λ a q. true≢false (rw q at e); negation = λ v q. true≢false (rw q at e) }
 
--- An effect that both editions may have, or one whose access comes to stop 13 or 14, whatever is replied.
+-- An effect that both editions may have, or one whose access comes to stop 13 or 14, whatever is
+-- replied.
 data Kind (e : Effect) : Type 0 where
   common : NoOverflow e → Kind e
   own : ((c : Core) (x : Reply) → overflows (settle_of c (access_of e) x).outcome ≡ true) → Kind e

@@ -1,5 +1,6 @@
--- What the limit, halt and a fault mean for the end of a run, and that room for four words a step is enough for its log. What an
--- instruction does is looked at only to see that a fault leaves halt as it was.
+-- What the limit, halt and a fault mean for the end of a run, and that room for four words a step
+-- is enough for its log. What an instruction does is looked at only to see that a fault leaves halt
+-- as it was.
 use Rattle.std.specs.Prelude.{◌≡◌, ◌↔◌, ℕ, zero, suc, ◌+◌, ◌*◌, ◌≤◌, Bool, true, false, List, [], ◌++◌, length, Option, Result, Ok, Err}
 use mathlib.Core.Path.{refl, sym, ap, ◌∙◌}
 use native.Mathlib.Omega.{arith}
@@ -142,8 +143,8 @@ how_faulted (faults h) s k = by_fault
 abbrev Before : Setting → Ran Memory → Ran Memory → Type 0
 Before given b r = (b.end ≡ limit) × (b.steps ≡ r.steps) × (turn_after given b ≡ turn r.end r.core r.memory)
 
--- What is true of r, the result of a run that had counted n, with k steps left: how many it made and left, how it ends, and of a fault, the run
--- before it. `again` is the same run by its limit.
+-- What is true of r, the result of a run that had counted n, with k steps left: how many it made
+-- and left, how it ends, and of a fault, the run before it. `again` is the same run by its limit.
 record Ended (given : Setting) (again : ℕ → Ran Memory) (k n : ℕ) (r : Ran Memory) : Type 0 where
   made : ℕ
   left : ℕ

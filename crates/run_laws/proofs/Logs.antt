@@ -1,5 +1,5 @@
--- A logged run is the run without a log as far as its log has room, and how long its log is: two words a read, at most two reads a step. Nothing here
--- looks at an instruction.
+-- A logged run is the run without a log as far as its log has room, and how long its log is: two
+-- words a read, at most two reads a step. Nothing here looks at an instruction.
 use Rattle.std.specs.Prelude.{◌≡◌, ℕ, zero, suc, ◌+◌, ◌*◌, ◌≤◌, Bool, true, false, eqb, List, [], ◌++◌, length, Option, Result, Ok, Err}
 use mathlib.Core.List.{append-nil, append_assoc}
 use mathlib.Core.Path.{refl, ap}
@@ -53,7 +53,8 @@ no_reads = record { count = 0; reads = no_read; within = omega arith }
 one_read : (p : Purpose) (a w : ℕ) → AtMost 1 (entry_of p a w)
 one_read p a w = record { count = 1; reads = one_more no_read p a w; within = omega arith }
 
--- How a cycle comes out, with its log: it steps, after at most two reads, or it faults, after at most one.
+-- How a cycle comes out, with its log: it steps, after at most two reads, or it faults, after at
+-- most one.
 pub data Comes : Outcome → List ℕ → Type 0 where
   steps : {l : List ℕ} → AtMost 2 l → Comes stepped l
   faults : {n v : ℕ} {l : List ℕ} → AtMost 1 l → Comes (fault n v) l
@@ -148,7 +149,8 @@ log_size =
 abbrev SameIfRoom : Logged (Ran Memory) → Logged (Ran Memory) → Type 0
 SameIfRoom r q = HasRoom r → r ≡ q
 
--- the run without a log with so many steps left that it ends by the limit where r, which had counted n, ends
+-- the run without a log with so many steps left that it ends by the limit where r, which had
+-- counted n, ends
 record Cut (plainly : ℕ → Logged (Ran Memory)) (n : ℕ) (r : Logged (Ran Memory)) : Type 0 where
   left : ℕ
   counted : r.result.steps ≡ n + left

@@ -1,5 +1,5 @@
--- What rights keep: each access is at an address whose page has its right, so what a page lacks the right for never happens to its addresses. Nothing here looks at
--- an instruction.
+-- What rights keep: each access is at an address whose page has its right, so what a page lacks the
+-- right for never happens to its addresses. Nothing here looks at an instruction.
 use Rattle.std.specs.Prelude.{◌≡◌, ◌≢◌, ℕ, zero, suc, ◌^◌, ◌/◌, ◌<◌, ◌≤◌, Bool, true, false, List, [], ◌∷◌, ◌++◌, length, get_or, Option, Result}
 use mathlib.Core.List.{append-nil}
 use mathlib.Core.Path.{refl, sym, ap, ◌∙◌}
@@ -86,7 +86,8 @@ module _ (rights : Option (List ℕ)) (a : ℕ) where
   spares_leads =
       record { same = λ l m. spares_same m; next = spares_next; read = λ p l m b. read_spares p m b; write = λ l m b v. write_spares m b v }
 
--- What each access keeps of the log: it names no address that lacks the right. Memory is no longer than 65,536 words, so an address leaves bit 16 alone.
+-- What each access keeps of the log: it names no address that lacks the right. Memory is no longer
+-- than 65,536 words, so an address leaves bit 16 alone.
 unnamed_append : (p : Purpose) (a : ℕ) (l l' : List ℕ) → Unnamed p a l → Unnamed p a l' → Unnamed p a (l ++ l')
 unnamed_append p a [] l' f g k = g k
 unnamed_append p a (x ∷ l) l' f g zero = f zero

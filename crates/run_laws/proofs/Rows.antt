@@ -1,4 +1,4 @@
--- The twelve rows of document 01's 'Words a planner would recognise', computed from the definitions together.
+-- The twelve rows of known words, and edition 2, computed from the definitions together.
 use mathlib.Core.Path.{refl}
 use Rattle.instructions.specs.Decoding.{decode_of}
 use Rattle.execute.specs.Edition.{refused_edition, edition_of}

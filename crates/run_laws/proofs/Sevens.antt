@@ -1,4 +1,5 @@
--- A run with 256 sevens is the run without rights: every access has the same place. Nothing here looks at an instruction.
+-- A run with 256 sevens is the run without rights: every access has the same place. Nothing here
+-- looks at an instruction.
 use Rattle.std.specs.Prelude.{◌≡◌, ℕ, ◌/◌, ◌%◌, ◌<◌, ◌≤◌, true, eqb, ltb, nat_eq, List, [], length, replicate, Option, None, Some}
 use mathlib.Core.Path.{refl, sym, ap, ◌∙◌}
 use native.Mathlib.Omega.{arith}

@@ -1,5 +1,5 @@
--- Two runs side by side, each on what stands for its memory: they differ in that alone, as long as a relation of the two is kept by each access.
--- Nothing here looks at an instruction.
+-- Two runs side by side, each on what stands for its memory: they differ in that alone, as long as
+-- a relation of the two is kept by each access. Nothing here looks at an instruction.
 use Rattle.std.specs.Prelude.{◌≡◌, ℕ, zero, suc, ◌+◌, Bool, List, [], ◌++◌, Result, Ok, Err}
 use mathlib.Core.List.{append-nil, append_assoc}
 use mathlib.Core.Path.{refl, sym, ap, subst}
@@ -38,8 +38,9 @@ pub record Same {S S' A : Type 0} (x : Accessed S A) (y : Accessed S' A) (alike 
   pub answer : y.answer ≡ x.answer
   pub kept : alike x.memory y.memory
 
--- What each access keeps. R relates the log so far and the two memories; Seen says of the first run's log and memory what its end tells of
--- them, and held before if it holds after; Fits says of the core what its words are known to be.
+-- What each access keeps. R relates the log so far and the two memories; Seen says of the first
+-- run's log and memory what its end tells of them, and held before if it holds after; Fits says of
+-- the core what its words are known to be.
 pub record Simulates {S S' : Type 0} (first : Store S) (second : Store S') (plan : Core → ℕ → Plan) (W : ℕ → Type 0) (Fits : Core → Type 0)
     (R : List ℕ → S → S' → Type 0) (Seen : List ℕ → S → Type 0) : Type 0 where
   pub read : (p : Purpose) (l : List ℕ) (m : S) (m' : S') (a : ℕ) → R l m m'

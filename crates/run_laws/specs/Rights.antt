@@ -1,4 +1,5 @@
--- What is claimed of rights over pages (document 02, CR 3): what a page without a right keeps, and that 256 sevens are the run without rights.
+-- What is claimed of rights over pages: what a page without a right keeps, and that 256 sevens are
+-- the run without rights (docs/MACHINE.md, Rights).
 use Rattle.std.specs.Prelude.{ℕ, ◌<◌, ◌≡◌, ◌^◌, true, false, List, length, get_or, replicate, Option, None, Some}
 use Rattle.memory.specs.Log.{address_word, Logged, Room}
 use Rattle.memory.specs.Memory.{Memory, was_read, was_written}
@@ -11,58 +12,65 @@ use Rattle.run_laws.specs.Agreement.{word_at, mark_at, AgreeLogged}
 
 -- an address whose page lacks a right, and one whose page has none
 abbrev pub Lacks : Option (List ℕ) → Right → ℕ → Type 0
-Lacks rights r a = has_right rights r a ≡ false
+Lacks rights right address = has_right rights right address ≡ false
 
 abbrev pub Closed : Option (List ℕ) → ℕ → Type 0
-Closed rights a = (r : Right) → Lacks rights r a
+Closed rights address = (right : Right) → Lacks rights right address
 
 -- no word of a log names an address as read for a purpose
 abbrev pub Unnamed : Purpose → ℕ → List ℕ → Type 0
-Unnamed p a l = (k : ℕ) → get_or l k 0 ≡ address_word p a → ⊥
+Unnamed purpose address log = (k : ℕ) → get_or log k 0 ≡ address_word purpose address → ⊥
 
--- what a run that started with the memory m leaves of an address on a page without any right: its mark is 0, its word is the one at the start, and no
--- log word names it
-pub record Untouched (m : Memory) (a : ℕ) (r : Logged (Ran Memory)) : Type 0 where
-  pub mark : mark_at r.result.memory a ≡ 0
-  pub word : word_at r.result.memory a ≡ word_at m a
-  pub unnamed : (p : Purpose) → Unnamed p a r.log
+-- what a run that started with this memory leaves of an address on a page without any right: its
+-- mark is 0, its word is the one at the start, and no log word names it
+pub record Untouched (memory : Memory) (address : ℕ) (run : Logged (Ran Memory)) : Type 0 where
+  pub mark : mark_at run.result.memory address ≡ 0
+  pub word : word_at run.result.memory address ≡ word_at memory address
+  pub unnamed : (purpose : Purpose) → Unnamed purpose address run.log
 
--- what such a run leaves of memory: on every page without any right the words of the start, and mark 0
+-- what such a run leaves of memory: on every page without any right the words of the start, and
+-- mark 0
 abbrev pub ClosedKept : Option (List ℕ) → Memory → Memory → Type 0
-ClosedKept rights m m' = (a : ℕ) → Closed rights a → (word_at m' a ≡ word_at m a) × (mark_at m' a ≡ 0)
+ClosedKept rights start left =
+    (address : ℕ) → Closed rights address → (word_at left address ≡ word_at start address) × (mark_at left address ≡ 0)
 
 -- two memories are equal wherever a page has some right
 abbrev pub EqualButClosed : Option (List ℕ) → Memory → Memory → Type 0
-EqualButClosed rights m m' = (a : ℕ) (r : Right) → has_right rights r a ≡ true → word_at m a ≡ word_at m' a
+EqualButClosed rights memory memory' =
+    (address : ℕ) (right : Right) → has_right rights right address ≡ true → word_at memory address ≡ word_at memory' address
 
 -- two runs agree in everything but the words on pages without any right
-pub record AgreeButClosed (rights : Option (List ℕ)) (m m' : Memory) (r q : Logged (Ran Memory)) : Type 0 where
-  pub agree : AgreeLogged m m' r q
-  pub words : EqualButClosed rights r.result.memory q.result.memory
+pub record AgreeButClosed (rights : Option (List ℕ)) (memory memory' : Memory) (run run' : Logged (Ran Memory)) : Type 0 where
+  pub agree : AgreeLogged memory memory' run run'
+  pub words : EqualButClosed rights run.result.memory run'.result.memory
 
 -- of every accepted run
 pub record Isolation : Type 0 where
   -- every address, which is a 16-bit word, on a page without any right
-  pub untouched : (given : Setting) (c : Core) (m : Memory) (limit a : ℕ) → a < 2 ^ 16 → refusal_in given m ≡ 0 → Closed given.rights a
-      → Untouched m a (run_in plan_of given c m limit)
+  pub untouched : (given : Setting) (core : Core) (memory : Memory) (limit address : ℕ)
+      → address < 2 ^ 16 → refusal_in given memory ≡ 0 → Closed given.rights address
+      → Untouched memory address (run_in plan_of given core memory limit)
   -- two runs whose memories differ only on such pages
-  pub unseen : (given : Setting) (c : Core) (m m' : Memory) (limit : ℕ)
-      → refusal_in given m ≡ 0 → refusal_in given m' ≡ 0 → length m.words ≡ length m'.words → EqualButClosed given.rights m m'
-      → AgreeButClosed given.rights m m' (run_in plan_of given c m limit) (run_in plan_of given c m' limit)
+  pub unseen : (given : Setting) (core : Core) (memory memory' : Memory) (limit : ℕ)
+      → refusal_in given memory ≡ 0 → refusal_in given memory' ≡ 0 → length memory.words ≡ length memory'.words
+      → EqualButClosed given.rights memory memory'
+      → AgreeButClosed given.rights memory memory' (run_in plan_of given core memory limit) (run_in plan_of given core memory' limit)
   -- a page without write keeps its words, and no mark on it includes 2
-  pub unwritten : (given : Setting) (c : Core) (m : Memory) (limit a : ℕ) → refusal_in given m ≡ 0 → Lacks given.rights Right.Write a
-      → (word_at (run_in plan_of given c m limit).result.memory a ≡ word_at m a)
-      × (was_written (mark_at (run_in plan_of given c m limit).result.memory a) ≡ 0)
+  pub unwritten : (given : Setting) (core : Core) (memory : Memory) (limit address : ℕ)
+      → refusal_in given memory ≡ 0 → Lacks given.rights Right.Write address
+      → (word_at (run_in plan_of given core memory limit).result.memory address ≡ word_at memory address)
+      × (was_written (mark_at (run_in plan_of given core memory limit).result.memory address) ≡ 0)
   -- an address on a page without read and execute is never marked 1
-  pub unread : (given : Setting) (c : Core) (m : Memory) (limit a : ℕ) → refusal_in given m ≡ 0
-      → Lacks given.rights Right.Read a → Lacks given.rights Right.Execute a
-      → was_read (mark_at (run_in plan_of given c m limit).result.memory a) ≡ 0
+  pub unread : (given : Setting) (core : Core) (memory : Memory) (limit address : ℕ) → refusal_in given memory ≡ 0
+      → Lacks given.rights Right.Read address → Lacks given.rights Right.Execute address
+      → was_read (mark_at (run_in plan_of given core memory limit).result.memory address) ≡ 0
   -- no log word names an address as read for a purpose whose right its page lacks
-  pub unnamed : (given : Setting) (c : Core) (m : Memory) (limit a : ℕ) (p : Purpose) → a < 2 ^ 16 → refusal_in given m ≡ 0
-      → Lacks given.rights (right_of p) a → Unnamed p a (run_in plan_of given c m limit).log
+  pub unnamed : (given : Setting) (core : Core) (memory : Memory) (limit address : ℕ) (purpose : Purpose)
+      → address < 2 ^ 16 → refusal_in given memory ≡ 0
+      → Lacks given.rights (right_of purpose) address → Unnamed purpose address (run_in plan_of given core memory limit).log
 
 -- a run with 256 sevens is the run without rights, refusals too, with a log or without
 abbrev pub SevensArePlain : Type 0
 SevensArePlain =
-    (room : Room) (edition : ℕ) (c : Core) (m : Memory) (limit : ℕ)
-    → run_in plan_of (setting room (Some (replicate 256 7)) edition) c m limit ≡ run_in plan_of (setting room None edition) c m limit
+    (room : Room) (edition : ℕ) (core : Core) (memory : Memory) (limit : ℕ)
+    → run_in plan_of (setting room (Some (replicate 256 7)) edition) core memory limit ≡ run_in plan_of (setting room None edition) core memory limit

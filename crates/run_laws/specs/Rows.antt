@@ -1,5 +1,5 @@
--- Words a planner would recognise (document 01): the twelve rows, in edition 1; and what edition 2 does in the place of stops 13 and 14 (document 02,
--- CR 5).
+-- The twelve rows of known words, in edition 1; and what edition 2 does in the place of stops 13
+-- and 14 (docs/MACHINE.md, Known words, Editions).
 use Rattle.std.specs.Prelude.{ℕ, List, [], ◌∷◌, ◌++◌, ◌≡◌, replicate, Result, Ok}
 use Rattle.instructions.specs.Decoding.{decode_of, no_instruction}
 use Rattle.instructions.specs.Encoding.{encode_of}
@@ -15,29 +15,31 @@ use Rattle.memory.specs.Outcome.{Outcome, stepped, halted, limit, fault}
 use Rattle.emulator.specs.Machine.{plan_of, Turn, step_of, Ran, run_of}
 use Rattle.emulator.specs.declared.core_record.Core.{Core}
 
--- what a row shows: a word, what a word decodes to, a step's outcome and core, or a run's end, steps, core and marks
+-- what a row shows: a word, what a word decodes to, a step's outcome and core, or a run's end,
+-- steps, core and marks
 pub data Seen : Type 0 where
   word : ℕ → Seen
   decoded : Result Instruction Undecodable → Seen
   step : Outcome → Core → Seen
   run : Outcome → ℕ → Core → List ℕ → Seen
 
--- a core with the words a and b in r0 and r1, and ip
+-- a core with these words in r0 and r1, and ip
 abbrev pub core : ℕ → ℕ → ℕ → Core
-core a b ip = core_of (a ∷ b ∷ replicate 6 0) ip 0 0xFFFF 0
+core r0 r1 ip = core_of (r0 ∷ r1 ∷ replicate 6 0) ip 0 0xFFFF 0
 
 abbrev pub step_seen : Turn Memory → Seen
-step_seen t = step t.outcome t.core
+step_seen made = step made.outcome made.core
 
--- a step, in an edition, of the word w, which stands at address 0, with a and b in r0 and r1
+-- a step, in an edition, of an instruction, which stands at address 0, with these words in r0 and
+-- r1
 abbrev pub stepped_in : ℕ → ℕ → ℕ → ℕ → Seen
-stepped_in edition w a b = step_seen (step_of plan_of (core a b 0) (lent (w ∷ []) (0 ∷ [])) edition)
+stepped_in edition instruction r0 r1 = step_seen (step_of plan_of (core r0 r1 0) (lent (instruction ∷ []) (0 ∷ [])) edition)
 
 abbrev pub stepped_at_0 : ℕ → ℕ → ℕ → Seen
 stepped_at_0 = stepped_in 1
 
 abbrev pub run_seen : Ran Memory → Seen
-run_seen r = run r.end r.steps r.core r.memory.marks
+run_seen made = run made.end made.steps made.core made.memory.marks
 
 -- a fresh core pushes, in memory of 1 + more words
 abbrev pub fresh_push : ℕ → Seen
