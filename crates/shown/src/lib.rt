@@ -1,13 +1,17 @@
-// How test programs print the end of a run.
+//! How test programs print the end of a run.
 #![tactic(auto)]
 
 use emulator::End;
 use memory::Fault;
 use std::fmt;
 
-// An end as it is printed.
+/// An end as it is printed: `halted`, `limit`, `fault` with its number and value, `refused` with
+/// its number, or `log` with the number of an end by the log.
 #[derive(Drop)]
-pub struct Shown(pub End);
+pub struct Shown(
+    /// The end.
+    pub End,
+);
 
 impl fmt::Display for Shown {
     fn fmt<W: fmt::Write>(&self, f: &mut fmt::Formatter<W>) -> fmt::Result {
