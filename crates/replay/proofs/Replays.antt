@@ -1,4 +1,5 @@
--- The replay's loop ends where the log is left; what it answers is what the whole run on the tape would.
+-- The replay's loop ends where the log is left; what it answers is what the whole run on the tape
+-- would.
 use Rattle.std.specs.Prelude.{◌≡◌, ℕ, zero, suc, ◌+◌, Bool, true, false, ◌&&◌, not, List, [], ◌++◌, length, drop, eqb, if◌then◌else◌, Option}
 use mathlib.Core.List.{append-nil, append_assoc}
 use mathlib.Core.Path.{refl, sym, ap, ◌∙◌}
@@ -35,7 +36,8 @@ begins_leads on =
       write = λ l m a v. record { more = []; is = sym (append-nil l) };
     }
 
--- a run that its log may end, u, and the plain one, r: they are one, or the first ended at a log that the second's begins with
+-- a run that its log may end, u, and the plain one, r: they are one, or the first ended at a log
+-- that the second's begins with
 pub data Until {S : Type 0} (over : List ℕ → Bool) (u r : Logged (Ran S)) : Type 0 where
   whole : u ≡ r → Until over u r
   cut : over u.log ≡ true → Begins u.log r.log → Until over u r

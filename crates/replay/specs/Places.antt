@@ -1,4 +1,5 @@
--- What the log in memory's place promises. Nothing here says what a replay is: its promises are proved to come to `replay_of`.
+-- Need not be believed: replay::proofs::Replays::turns_seen and turns_off tie it to a replay.
+-- What the log in memory's place promises. Nothing here says what a replay is.
 use Rattle.std.specs.Prelude.{ℕ, Bool, true, false, ◌&&◌, List, [], ◌∷◌, ◌≡◌, refl, eqb, if◌then◌else◌, ◌%◌}
 use Rattle.memory.specs.Log.{entry_of}
 use Rattle.memory.specs.declared.log.Purpose.{Purpose}
@@ -17,4 +18,4 @@ begun false k = refl
 
 -- whether two log words are the read
 unfoldable pub is_entry : Purpose → ℕ → ℕ → ℕ → Bool
-is_entry p a named value = begins (entry_of p a (value % 65536)) (named ∷ value ∷ [])
+is_entry purpose address named value = begins (entry_of purpose address (value % 65536)) (named ∷ value ∷ [])

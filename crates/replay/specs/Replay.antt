@@ -1,4 +1,6 @@
--- The replay of a log, without the memory (document 02, CR 2), with rights (CR 3) and in an edition (CR 5).
+-- The replay of a log, without the memory, with rights and in an edition. The same stands in words
+-- in docs/MACHINE.md, Logs and replays, and its host tests in docs/NUMBERS.md, The order of the
+-- tests.
 use Rattle.std.specs.Prelude.{ℕ, ◌%◌, Bool, true, false, List, [], ◌∷◌, eqb, ◌==◌, get_or, drop, if◌then◌else◌, Option, Result, Ok}
 use Rattle.memory.specs.Log.{Logged, Room}
 use Rattle.memory.specs.Memory.{refused_length, Accessed, accessed, place_of, at_place}
@@ -19,18 +21,22 @@ pub record Tape : Type 0 where
   pub rest : List ℕ
 
 abbrev pub tape : ℕ → List ℕ → Tape
-tape n l = record { size = n; rest = l }
+tape size rest = record { size = size; rest = rest }
 
--- a read takes the next two log words, and the word as logged: bits 15..0 of the second. A write leaves nothing to be read.
+-- a read takes the next two log words, and the word as logged: bits 15..0 of the second. A write
+-- leaves nothing to be read.
 abbrev pub word_in : List ℕ → ℕ
-word_in l = get_or l 1 0 % 65536
+word_in rest = get_or rest 1 0 % 65536
 
 unfoldable pub read_tape : Option (List ℕ) → Tape → Purpose → ℕ → Accessed Tape (Result ℕ Stop)
-read_tape rights t p a =
-    at_place (place_of rights t.size (right_of p) a) (λ k. accessed (Ok (word_in t.rest)) (tape t.size (drop 2 t.rest))) t
+read_tape rights before purpose address =
+    at_place (place_of rights before.size (right_of purpose) address)
+    (λ place. accessed (Ok (word_in before.rest)) (tape before.size (drop 2 before.rest)))
+    before
 
 unfoldable pub write_tape : Option (List ℕ) → Tape → ℕ → ℕ → Accessed Tape (Result (Unit {0}) Stop)
-write_tape rights t a v = at_place (place_of rights t.size Right.Write a) (λ k. accessed (Ok tt) t) t
+write_tape rights before address value =
+    at_place (place_of rights before.size Right.Write address) (λ place. accessed (Ok tt) before) before
 
 abbrev pub tape_store : Option (List ℕ) → Store Tape
 tape_store rights = record { read = read_tape rights; write = write_tape rights }
@@ -42,7 +48,7 @@ pub record Replayed : Type 0 where
   pub core : Core
 
 abbrev pub replayed : Outcome → ℕ → Core → Replayed
-replayed o n c = record { end = o; steps = n; core = c }
+replayed outcome steps core = record { end = outcome; steps = steps; core = core }
 
 -- whether two lists are equal
 unfoldable pub same : List ℕ → List ℕ → Bool
@@ -51,21 +57,24 @@ same [] (y ∷ ys) = false
 same (x ∷ xs) [] = false
 same (x ∷ xs) (y ∷ ys) = if eqb x y then same xs ys else false
 
--- The run on the tape makes a log of its own. Where that is the log, the replay answers as the run; else 31, for then some read isn't the next
--- two log words, or the log is over too soon, or words are left over.
+-- The run on the tape makes a log of its own. Where that is the log, the replay answers as the run;
+-- else 31, for then some read isn't the next two log words, or the log is over too soon, or words
+-- are left over.
 abbrev pub answer_of : Core → List ℕ → Logged (Ran Tape) → Replayed
-answer_of c log r =
-    if same r.log log
-    then replayed r.result.end r.result.steps r.result.core
-    else replayed (ended 31) 0 c
+answer_of core log run =
+    if same run.log log
+    then replayed run.result.end run.result.steps run.result.core
+    else replayed (ended 31) 0 core
 
 -- the host tests of a replay, in number order: 1, then 32, then 34
 abbrev pub replay_refusal : Option (List ℕ) → ℕ → ℕ → ℕ
-replay_refusal rights ed size = then_test (then_test (if refused_length size then 1 else 0) (refused_bytes rights) 32) (refused_edition ed) 34
+replay_refusal rights edition size =
+    then_test (then_test (if refused_length size then 1 else 0) (refused_bytes rights) 32) (refused_edition edition) 34
 
--- the replay of a log with the rights bytes, if any, the edition's number, a core, the memory's length and the limit
+-- the replay of a log with the rights bytes, if any, the edition's number, a core, the memory's
+-- length and the limit
 unfoldable pub replay_of : (Edition → Core → ℕ → Plan) → Option (List ℕ) → ℕ → Core → ℕ → ℕ → List ℕ → Replayed
-replay_of plan rights ed c size up_to log =
-    if replay_refusal rights ed size == 0
-    then answer_of c log (run_from (tape_store rights) (plan (edition_of ed)) Room.none up_to 0 c (tape size log) [])
-    else replayed (refused (replay_refusal rights ed size)) 0 c
+replay_of plan rights edition core size limit log =
+    if replay_refusal rights edition size == 0
+    then answer_of core log (run_from (tape_store rights) (plan (edition_of edition)) Room.none limit 0 core (tape size log) [])
+    else replayed (refused (replay_refusal rights edition size)) 0 core

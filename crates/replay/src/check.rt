@@ -1,4 +1,5 @@
-// The host tests of a replay, in number order. What passes them comes back in the form that the loop takes.
+//! The host tests of a replay, in their order (docs/NUMBERS.md, The order of the tests). What
+//! passes them comes back in the form that the loop takes.
 ghost use Rattle.std.specs.Prelude.{◌≡◌, IfOk, None, Some};
 ghost use Rattle.execute.specs.Edition.{edition_of};
 ghost use Rattle.emulator.specs.Machine.{test_number};
@@ -8,7 +9,7 @@ use emulator::check_edition;
 use execute::Edition;
 use memory::{Refusal, check_length, check_rights};
 
-// 1 and 34.
+/// The host tests of a replay without rights, of a memory of so many words: 1 and 34.
 pub fn check(size: usize, edition: u16) -> Result<Edition, Refusal>
     ensures number { test_number result ≡ replay_refusal None edition size }
     ensures edition { IfOk result (λ e. e ≡ edition_of edition) }
@@ -17,7 +18,8 @@ pub fn check(size: usize, edition: u16) -> Result<Edition, Refusal>
     check_edition(edition)
 }
 
-// 1, 32 and 34.
+/// The host tests of a replay with rights: 1, 32 and 34. The rights bytes come back as the 256 that
+/// they are.
 pub fn check_guarded(
     size: usize,
     rights: &[u8],

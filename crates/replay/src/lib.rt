@@ -1,4 +1,6 @@
-// The replay of a run from its log, without its memory.
+//! The replay of a run from its log, without its memory: the same loop, with the log in memory's
+//! place (docs/MACHINE.md, Logs and replays). `check` has its host tests, `tape` the log that is
+//! read. specs/Replay.antt defines what it answers.
 #![tactic(auto)]
 
 ghost use Rattle.std.specs.Prelude.{◌≡◌, [], Some, None};
@@ -17,8 +19,8 @@ use memory::{LogEnd, Rights};
 mod check;
 mod tape;
 
-// The turns of a replay. Both replays call this one function, so that the loop stands in it alone (docs/PERFORMANCE.md). Words of the log that
-// are left over are a mismatch too.
+// The turns of a replay. Both replays call this one function, so that the loop stands in it alone
+// (docs/PERFORMANCE.md). Words of the log that are left over are a mismatch too.
 fn tape_turns(
     core: Core,
     size: usize,
@@ -42,7 +44,10 @@ fn tape_turns(
     }
 }
 
-// The run that made the log, seen again: its end, steps and registers. `size` is the length of the memory that it ran on.
+/// The run that made the log, seen again: its end, steps and registers. `size` is the length of the
+/// memory that it ran on, and core, edition and limit are those that it was given. Where the reads
+/// aren't the log's, or words are left over, it ends by 31, and a refused replay by its number: the
+/// core is as given then, with 0 steps.
 pub fn replay(core: Core, size: usize, edition: u16, limit: u32, log: &[u32]) -> Run
     ensures { replayed (end_of result.end) result.steps result.core ≡ replay_of plan_of None edition core size limit log.now }
 {
@@ -52,7 +57,7 @@ pub fn replay(core: Core, size: usize, edition: u16, limit: u32, log: &[u32]) ->
     }
 }
 
-// The same of a run with rights.
+/// The same of a run with rights, which are those that it was given.
 pub fn replay_guarded(
     core: Core,
     size: usize,

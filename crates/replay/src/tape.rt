@@ -1,4 +1,4 @@
-// The log in memory's place: each read must be the next two words.
+//! The log in memory's place: each read must be the next two words.
 ghost use Rattle.std.specs.Prelude.{◌≡◌, ◌&&◌, length, drop, eqb, not, refl};
 ghost use Rattle.replay.specs.Places.{is_entry, begins, begun};
 ghost use Rattle.replay.specs.Replay.{Tape, tape, tape_store};
@@ -13,17 +13,21 @@ fn is_entry(purpose: Purpose, address: u16, named: u32, value: u32) -> bool
     named == address_word(purpose, address) && value / 0x10000 == 0x5000
 }
 
-// The length of the memory that was run on, the words that are still to be read, and whether the reads so far are the log's. (A flag and not
-// an `Option` of the words: the definition's tape reads on after a mismatch, so there are words then too.)
+/// A log in memory's place. A read that may be made takes its next two words, and gives the word as
+/// logged; a write takes none.
 #[derive(Drop)]
 pub struct LogTape<'a> {
+    /// The length of the memory that was run on.
     pub size: usize,
+    /// The log words that are still to be read.
     pub rest: &'a [u32],
+    /// Whether the reads so far are the log's. (A flag and not an `Option` of the words: the
+    /// definition's tape reads on after a mismatch, so there are words then too.)
     pub matches: bool,
 }
 
 impl LogTape<'_> {
-    // Whether the reads were the log's, and all of it is read.
+    /// Whether the reads were the log's, and all of it is read.
     pub fn is_read(&self) -> bool
         ensures { result ≡ (self.now.matches && eqb (length self.now.rest.now) 0) }
     {
