@@ -1,4 +1,5 @@
--- Words stay 16-bit: what an instruction leaves to the registers and to memory, of a core that holds words.
+-- Words stay 16-bit: what an instruction leaves to the registers and to memory, of a core that
+-- holds words.
 use Prim.Native.Nat.{ℕ}
 use mathlib.Core.List.{List}
 use mathlib.Core.Path.{◌≡◌, refl}

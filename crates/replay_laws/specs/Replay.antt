@@ -1,4 +1,5 @@
--- The replay of a run's log is the run (document 02, CR 2, CR 3 and CR 5). The claim is over what a word is planned to do, and mentions no instruction.
+-- The replay of a run's log is the run (docs/MACHINE.md, Logs and replays). The claim is over what
+-- a word is planned to do, and mentions no instruction.
 use Rattle.std.specs.Prelude.{ℕ, ◌≡◌, length, get_or}
 use Rattle.execute.specs.Registers.{registers}
 use Rattle.execute_laws.specs.Words.{IsWord, RegistersFit}
@@ -11,19 +12,21 @@ use Rattle.run_laws.specs.Agreement.{HasRoom}
 
 -- words are 16-bit: in the registers, and in memory
 abbrev pub CoreFits : Core → Type 0
-CoreFits c = RegistersFit (registers c.gprs c.ip c.rp c.sp c.ef)
+CoreFits core = RegistersFit (registers core.gprs core.ip core.rp core.sp core.ef)
 
 abbrev pub MemoryFits : Memory → Type 0
-MemoryFits m = (a : ℕ) → IsWord (get_or m.words a 0)
+MemoryFits memory = (address : ℕ) → IsWord (get_or memory.words address 0)
 
 -- what a replay owes for a run: its end, with number and value, its steps, and its twelve registers
 abbrev pub seen_again : Logged (Ran Memory) → Replayed
-seen_again r = replayed r.result.end r.result.steps r.result.core
+seen_again run = replayed run.result.end run.result.steps run.result.core
 
--- for every run that no host test refuses and that doesn't end by 30, logged or not, with rights or without: the replay of its log, with its
--- rights, its edition, its core, its memory's length and its limit
+-- for every run that no host test refuses and that doesn't end by 30, logged or not, with rights or
+-- without: the replay of its log, with its rights, its edition, its core, its memory's length and
+-- its limit
 abbrev pub ReplayIsRun : Type 0
 ReplayIsRun =
-    (given : Setting) (c : Core) (m : Memory) (limit : ℕ)
-    → CoreFits c → MemoryFits m → refusal_in given m ≡ 0 → HasRoom (run_in plan_of given c m limit)
-    → replay_of plan_of given.rights given.edition c (length m.words) limit (run_in plan_of given c m limit).log ≡ seen_again (run_in plan_of given c m limit)
+    (given : Setting) (core : Core) (memory : Memory) (limit : ℕ)
+    → CoreFits core → MemoryFits memory → refusal_in given memory ≡ 0 → HasRoom (run_in plan_of given core memory limit)
+    → replay_of plan_of given.rights given.edition core (length memory.words) limit (run_in plan_of given core memory limit).log
+    ≡ seen_again (run_in plan_of given core memory limit)
