@@ -1,4 +1,6 @@
-// The program `berth`: reads a rule sheet from standard input, runs it, and prints one line.
+//! The program `berth`: reads a rule sheet's bytes from standard input, runs it, prints one line.
+//! `run` is the program over any reader and writer, and `main` hands it the standard streams.
+//! It makes true docs/SHEETS.md, The line, and What the program reads.
 #![tactic(auto)]
 
 ghost use Rattle.line.specs.Line.{line_of};
@@ -7,11 +9,14 @@ ghost use Rattle.std.specs.Io.{ReadsAtMost};
 ghost use Rattle.std.specs.Prelude.{◌<◌, IfOk, IfSome, OnOk, length, take};
 
 use line::line_of;
+use std::env::FillError;
 use std::io;
 use std::io::{Read, Write};
+use std::process::ExitCode;
+use std::rt::Env;
 
-// Reads until `buf` is full or the input ends, and answers how many bytes it put at the start of `buf`. (`read_to_end` wants a `Vec`, and
-// there is no heap.)
+// Reads until `buf` is full or the input ends, and answers how many bytes it put at the start of
+// `buf`. (`read_to_end` wants a `Vec`, and there is no heap.)
 fn read_full<R: Read>(reader: &mut R, buf: &mut [u8]) -> io::Result<usize>
     ensures bound { ReadsAtMost result buf.new }
     ensures bytes { IfOk result (λ n. Consumes (R.remaining reader.old) (R.remaining reader.new) (take n buf.new)) }
@@ -28,8 +33,9 @@ fn read_full<R: Read>(reader: &mut R, buf: &mut [u8]) -> io::Result<usize>
     Ok(done)
 }
 
-/// Writes the line of the whole input, of which it reads at most one byte more than may be accepted. Where it succeeds, the writer has got that line and
-/// nothing else, if the bytes of both are known; an error of the reader or the writer is handed on.
+/// Writes the line of the whole input, of which it reads at most one byte more than may be
+/// accepted. Where it succeeds, the writer has got that line and nothing else, if the bytes of both
+/// are known; an error of the reader or the writer is handed on.
 // (It isn't inlined, so that the loop of the sheet's run stands well: docs/PERFORMANCE.md.)
 #[inline(never)]
 pub fn run<R: Read, W: Write>(reader: &mut R, writer: &mut W) -> io::Result<()>
@@ -42,6 +48,22 @@ pub fn run<R: Read, W: Write>(reader: &mut R, writer: &mut W) -> io::Result<()>
     writer.write_all(line_of(&input[..read]).as_slice())
 }
 
-fn main(rt: HostRuntime) -> io::Result<()> {
-    run(&mut rt.stdin(), &mut rt.stdout())
+// What the program says where it is called with an argument.
+const USE: &str =
+    "berth takes no arguments. It reads a rule sheet's bytes from standard input, four for each\n\
+    record, low byte first. A sheet that is text is run by scripts/berth FILE.\n";
+
+// Whether the program was called with an argument. (`env::args` would copy each of them to a heap;
+// here an argument is asked for with no room for it, and it is there if it is empty or too long.)
+fn has_argument(env: &impl Env) -> bool {
+    !matches!(env.arg(1, &mut []), Err(FillError::NotPresent))
+}
+
+fn main(rt: HostRuntime) -> io::Result<ExitCode> {
+    if has_argument(&rt) {
+        let _ = rt.stderr().write_all(USE.as_bytes());
+        return Ok(ExitCode::from(2));
+    }
+    run(&mut rt.stdin(), &mut rt.stdout())?;
+    Ok(ExitCode::SUCCESS)
 }

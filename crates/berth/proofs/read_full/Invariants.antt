@@ -1,4 +1,5 @@
--- `berth::read_full` ends: each read that goes on fills more of the buffer, with the reader's next bytes.
+-- `berth::read_full` ends: each read that goes on fills more of the buffer, with the reader's next
+-- bytes.
 use Rattle.std.proofs.Common.{length, take, ◌-◌, ◌≤◌, ◌≡◌}
 use Rattle.std.specs.Io.KnownBytes.{Consumes}
 use Rattle.berth.proofs.read_full.Given as goal

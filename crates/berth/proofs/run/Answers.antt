@@ -1,4 +1,5 @@
--- The line of what was read is that of the whole input: what was not read stands behind more bytes than are accepted.
+-- The line of what was read is that of the whole input: what was not read stands behind more bytes
+-- than are accepted.
 use Rattle.std.proofs.Common.{◌≡◌, ℕ, ◌%◌, ◌<◌, List, [], ◌++◌, Option, Some, None, IfSome, length, Err, true, false, eqb, sym, ap, ◌∙◌, subst, ⊎_elim, arith, length-append}
 use Rattle.std.proofs.lemmas.Bool.{cases_Bool, cases_lt, lt-ltb}
 use Rattle.std.proofs.lemmas.List.{append-nil}
