@@ -1,4 +1,6 @@
-// Runs sheets and other inputs through `line_of`, and prints each line after its label.
+//! Runs sheets and other inputs through `line_of`, and prints each line after its label: every end
+//! and fault of docs/SHEETS.md, The line, every refusal of a sheet, and inputs that are too short
+//! or too long (What the program reads).
 #![tactic(auto)]
 
 ghost use Rattle.std.specs.Prelude.{◌≤◌, length};
@@ -82,7 +84,8 @@ const LOST: [u32; 3] = [0x30000001, 0x20004410, 0xF0000003];
 // The count is tested before the records after the end.
 const COUNT_FIRST: [u32; 3] = [0x20000001, 0xF0000000, 0x00000000];
 
-// Prints the line of an input after its label. (Functions and not a `Display`, since a line is bytes.)
+// Prints the line of an input after its label. (Functions and not a `Display`, since a line is
+// bytes.)
 fn show(rt: &impl Print, label: &[u8], input: &[u8]) -> io::Result<()> {
     rt.write_all(label)?;
     rt.write_all(b": ")?;

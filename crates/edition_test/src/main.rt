@@ -1,5 +1,6 @@
-// Runs rules in both editions: the four instructions that tell them apart, by amounts up to 65,535; a rule that shifts by 16, with its log and the replays
-// of that; and calls that are handed another edition.
+//! Runs rules in both editions (docs/MACHINE.md, Editions): the four instructions that tell them
+//! apart, by amounts up to 65,535; a rule that shifts by 16, with its log and the replays of that;
+//! and calls that are handed another edition.
 #![tactic(auto)]
 
 mod refusals;

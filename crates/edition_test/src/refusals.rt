@@ -16,7 +16,8 @@ fn end_of(answer: Answer) -> End {
     }
 }
 
-// Every call in an edition, on so many words with so many marks; and whether the core and all that was lent are as before.
+// Every call in an edition, on so many words with so many marks; and whether the core and all that
+// was lent are as before.
 fn show(rt: &impl Print, size: usize, marked: usize, rights: &[u8], edition: u16) -> io::Result<()>
     requires size { size ≤ 2 }
     requires marked { marked ≤ 2 }
@@ -49,6 +50,7 @@ fn show(rt: &impl Print, size: usize, marked: usize, rights: &[u8], edition: u16
     println!(rt; " kept {kept}")
 }
 
+/// Numbers that are an edition and that are none, also beside what refuses memory, marks or rights.
 pub fn all(rt: &impl Print) -> io::Result<()> {
     for edition in [0, 1, 2, 3, 255, 256, 257, 258, 65535] {
         show(rt, 2, 2, &[7; 256], edition)?;

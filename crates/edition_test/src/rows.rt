@@ -7,7 +7,8 @@ const AMOUNTS: [u16; 9] = [0, 1, 15, 16, 17, 32, 256, 32768, 65535];
 
 const NEGATED: [u16; 6] = [0, 1, 0x7FFF, 0x8000, 0x8001, 0xFFFF];
 
-// A run of one step of the word, with r0 and r1 as given, and whether the step alone leaves the same core.
+// A run of one step of the word, with r0 and r1 as given, and whether the step alone leaves the
+// same core.
 fn show(rt: &impl Print, edition: u16, word: u16, core: Core) -> io::Result<()> {
     let (mut words, mut marks) = ([word], [0]);
     let run = core.run(&mut words, &mut marks, edition, 1);
@@ -32,6 +33,7 @@ fn both(rt: &impl Print, word: u16, r0: u16, r1: u16, ef: u16) -> io::Result<()>
     show(rt, 2, word, core)
 }
 
+/// The four instructions that tell the editions apart, and some that don't.
 pub fn all(rt: &impl Print) -> io::Result<()> {
     for amount in AMOUNTS {
         // shl r0 by r1, shr r0 by r1, and bitset r0 at r1, without the condition and with it

@@ -1,4 +1,5 @@
-// A rule that shifts by 16, in both editions: plainly, with a log, and with rights; and the replays of each log in both.
+// A rule that shifts by 16, in both editions: plainly, with a log, and with rights; and the replays
+// of each log in both.
 use emulator::{Core, LoggedRun, Run};
 use replay::{replay, replay_guarded};
 use shown::Shown;
@@ -62,6 +63,7 @@ fn show(rt: &impl Print, edition: u16) -> io::Result<()> {
     Ok(())
 }
 
+/// The rule in edition 1 and in edition 2.
 pub fn all(rt: &impl Print) -> io::Result<()> {
     show(rt, 1)?;
     show(rt, 2)

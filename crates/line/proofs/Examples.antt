@@ -1,4 +1,4 @@
--- The definitions at small values (document 01, the program), computed. None of them decodes a word.
+-- The definitions at small values (docs/SHEETS.md, The line), computed. None decodes a word.
 use mathlib.Core.List.{[], ◌∷◌, ◌++◌, map}
 use mathlib.Core.Path.{◌≡◌, refl}
 use Rattle.emulator.specs.Core.{core_of}

@@ -1,4 +1,4 @@
--- The line that `berth` prints (document 01, the program, and document 02, CR 5).
+-- The line that `berth` prints (docs/SHEETS.md, The line).
 use Rattle.std.specs.Prelude.{ℕ, Result, Ok, Err, List, [], ◌∷◌, ◌++◌, replicate}
 use Rattle.emulator.specs.declared.core_record.Core.{Core}
 use Rattle.memory.specs.Memory.{Memory, lent}
@@ -27,57 +27,59 @@ refused_word = 114 ∷ 101 ∷ 102 ∷ 117 ∷ 115 ∷ 101 ∷ 100 ∷ []
 
 -- a number after a space, and each of several
 abbrev pub field : ℕ → List ℕ
-field n = 32 ∷ decimal_of n
+field number = 32 ∷ decimal_of number
 
 unfoldable pub fields : List ℕ → List ℕ
 fields [] = []
-fields (n ∷ ns) = field n ++ fields ns
+fields (number ∷ numbers) = field number ++ fields numbers
 
 -- a line: a word, numbers, each after a single space, and a line feed
 unfoldable pub row : List ℕ → List ℕ → List ℕ
-row word ns = word ++ (fields ns ++ 10 ∷ [])
+row word numbers = word ++ (fields numbers ++ 10 ∷ [])
 
 -- what a run leaves: steps, ip, rp, sp, ef, r0 to r7
 abbrev pub state_of : ℕ → Core → List ℕ
-state_of steps c = steps ∷ c.ip ∷ c.rp ∷ c.sp ∷ c.ef ∷ c.gprs
+state_of steps core = steps ∷ core.ip ∷ core.rp ∷ core.sp ∷ core.ef ∷ core.gprs
 
 -- `refused` and the number
 abbrev pub refused_line : ℕ → List ℕ
-refused_line n = row refused_word (n ∷ [])
+refused_line number = row refused_word (number ∷ [])
 
--- the line of a run by its end, a fault with number and value; no run ends as stepped, and none here has a log to end it
+-- the line of a run by its end, a fault with number and value; no run ends as stepped, and none
+-- here has a log to end it
 unfoldable pub end_line : Outcome → ℕ → Core → List ℕ
-end_line stepped steps c = []
-end_line halted steps c = row halted_word (state_of steps c)
-end_line limit steps c = row limit_word (state_of steps c)
-end_line (fault n v) steps c = row fault_word (n ∷ v ∷ state_of steps c)
-end_line (refused n) steps c = refused_line n
-end_line (ended n) steps c = []
+end_line stepped steps core = []
+end_line halted steps core = row halted_word (state_of steps core)
+end_line limit steps core = row limit_word (state_of steps core)
+end_line (fault number value) steps core = row fault_word (number ∷ value ∷ state_of steps core)
+end_line (refused number) steps core = refused_line number
+end_line (ended number) steps core = []
 
 abbrev pub ran_line : Ran Memory → List ℕ
-ran_line t = end_line t.end t.steps t.core
+ran_line ran = end_line ran.end ran.steps ran.core
 
 -- the same of the code's answer, which may be a refusal
 abbrev pub run_line : Result Run SheetRefusal → List ℕ
-run_line (Ok r) = end_line (end_of r.end) r.steps r.core
-run_line (Err r) = refused_line (sheet_refusal_number r)
+run_line (Ok run) = end_line (end_of run.end) run.steps run.core
+run_line (Err refusal) = refused_line (sheet_refusal_number refusal)
 
 -- a sheet loaded: its run in its edition, with limit 1,000,000
 abbrev pub loaded_line : Result (Unit {0}) SheetRefusal → Core → ℕ → List ℕ → List ℕ
-loaded_line (Ok u) c ed words = ran_line (run_of plan_of c (lent words (replicate 32768 0)) ed 1000000)
-loaded_line (Err r) c ed words = refused_line (sheet_refusal_number r)
+loaded_line (Ok done) core edition words = ran_line (run_of plan_of core (lent words (replicate 32768 0)) edition 1000000)
+loaded_line (Err refusal) core edition words = refused_line (sheet_refusal_number refusal)
 
 abbrev pub left_line : Left → List ℕ
-left_line l = loaded_line l.answer l.core l.edition l.memory
+left_line left = loaded_line left.answer left.core left.edition left.memory
 
 -- a sheet: it is loaded into 32,768 words
 unfoldable pub sheet_line : List ℕ → List ℕ
 sheet_line records = left_line (load_sheet_of records (replicate 32768 0))
 
--- the line of an input: that of the sheet that its records make
+-- the line of an input (docs/SHEETS.md, What the program reads): that of the sheet that its records
+-- make
 abbrev pub input_line : Result (List ℕ) SheetRefusal → List ℕ
 input_line (Ok records) = sheet_line records
-input_line (Err r) = refused_line (sheet_refusal_number r)
+input_line (Err refusal) = refused_line (sheet_refusal_number refusal)
 
 unfoldable pub line_of : List ℕ → List ℕ
 line_of input = input_line (input_records input)

@@ -1,4 +1,6 @@
-// The line that the program `berth` prints, from the bytes of its input.
+//! The line that the program `berth` prints, from the bytes of its input (docs/SHEETS.md, What the
+//! program reads, and The line): `run` loads the sheet, runs it and writes the line's fields, by
+//! the pushes of `line`. Nothing here allocates, and nothing is read or printed.
 #![tactic(auto)]
 
 mod line;

@@ -6,10 +6,11 @@ ghost use Rattle.line.specs.Line.{field, fields};
 
 use arrayvec::ArrayVec;
 
-// A text of at most 128 bytes, which no line is longer than. (`write!` into one can fail, and no clause says that it doesn't.)
+/// A text of at most 128 bytes, which no line is longer than.
+// (`write!` into one can fail, and no clause says that it doesn't.)
 pub type Line = ArrayVec<u8, 128>;
 
-// Pushes a word. It fits, so this doesn't fail.
+/// Pushes a word, in ASCII. It fits, so this doesn't fail.
 pub fn push_word(line: &mut Line, word: &[u8])
     requires { array_vec_len line.old + length word.now ≤ 128 }
     ensures { line.new.items ≡ line.old.items ++ word.now }
@@ -31,7 +32,7 @@ fn push_number(line: &mut Line, n: u32)
     }
 }
 
-// Pushes a space and a number.
+/// Pushes a space and a number in decimal.
 pub fn push_field(line: &mut Line, n: u32)
     requires { array_vec_len line.old + length (field n) ≤ 128 }
     ensures { line.new.items ≡ line.old.items ++ field n }
@@ -40,7 +41,7 @@ pub fn push_field(line: &mut Line, n: u32)
     push_number(line, n);
 }
 
-// Pushes a space and a number for each word, which has five digits at most.
+/// Pushes a space and a number for each word, which has five digits at most.
 #[tactic(auto, using(crate::proofs::LineLaws::field_laws), unfolding(crate::specs::Line::fields))]
 pub fn push_fields(line: &mut Line, words: &[u16])
     requires { array_vec_len line.old + length words.now * 6 ≤ 128 }

@@ -22,7 +22,8 @@ fn push_state(line: &mut Line, run: Run)
     line.push(b'\n');
 }
 
-// `refused` and the number. (Cold, or it would be inlined at each of several refusals: docs/PERFORMANCE.md.)
+// `refused` and the number. (Cold, or it would be inlined at each of several refusals:
+// docs/PERFORMANCE.md.)
 #[tactic(auto, using(crate::proofs::LineLaws::field_laws), unfolding(crate::specs::Line::row, crate::specs::Line::fields))]
 #[cold]
 fn refused_line(refusal: SheetRefusal) -> Line
@@ -90,7 +91,9 @@ fn run_input(input: &[u8]) -> Result<Run, SheetRefusal>
     run_sheet(&sheet[..count])
 }
 
-// The line of the input's bytes: 128 at most.
+/// The line of an input, whatever its bytes are, the line feed at its end included (docs/SHEETS.md,
+/// The line): that of the run in 32,768 words with limit 1,000,000, or `refused` and the number of
+/// the first test that fails (docs/NUMBERS.md, The order of the tests).
 #[tactic(auto, unfolding(crate::specs::Line::line_of))]
 pub fn line_of(input: &[u8]) -> Line
     ensures line { result.items ≡ line_of input.now }

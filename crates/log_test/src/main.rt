@@ -1,5 +1,6 @@
-// Runs a short rule with a log, in more and more room, and prints how it ends and what it logs; then the replays of that log, as it is, longer,
-// shorter, and with one word changed.
+//! Runs a short rule with a log, in more and more room, and prints how it ends and what it logs;
+//! then the replays of that log, as it is, longer, shorter, and with one word changed
+//! (docs/MACHINE.md, Logs and replays).
 #![tactic(auto)]
 
 use emulator::{Core, LoggedRun, Run};
@@ -7,7 +8,8 @@ use replay::replay;
 use shown::Shown;
 use std::io;
 
-// putl r0 6; read r1 from [r0]; write r1 to [r0]; read r2 from [r0]; hlt; and at address 6 the word 42. Seven reads, five of them fetches.
+// putl r0 6; read r1 from [r0]; write r1 to [r0]; read r2 from [r0]; hlt; and at address 6 the word
+// 42. Seven reads, five of them fetches.
 const RULE: [u16; 7] = [0x1006, 0x2001, 0x2081, 0x2002, 0xFFFF, 0, 42];
 
 const LIMIT: u32 = 9;

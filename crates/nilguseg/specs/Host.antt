@@ -1,5 +1,5 @@
--- What a host sees of a call: a number, and lists of numbers that it lent (document 01, Stops and Records, and
--- document 02, CR 1 and CR 5, in the layout of the header).
+-- What a host sees of a call, in the layout of include/nilguseg.h: a number, and lists of numbers
+-- that it lent. The stops and refusals in it have the numbers of docs/NUMBERS.md.
 use Rattle.std.specs.Prelude.{ℕ, Result, Ok, Err, ◌+◌, ◌*◌, ◌^◌, List, [], ◌∷◌, ◌++◌, take, slice_index}
 use Rattle.emulator.specs.declared.core_record.Core.{Core}
 use Rattle.emulator.specs.Core.{core_of}
@@ -13,14 +13,15 @@ use Rattle.sheet.specs.Write.{Wrote}
 use Rattle.std.specs.declared.cmp.Ordering.{Ordering}
 use Rattle.order.specs.declared.Part.{Part}
 
--- the core record as twelve words: r0 to r7, ip, rp, sp, ef, which the header's struct `nilguseg_core` names
+-- the core record as twelve words: r0 to r7, ip, rp, sp, ef, which the header's struct
+-- `nilguseg_core` names
 abbrev pub core_from : List ℕ → Core
-core_from ws = core_of (take 8 ws) (slice_index ws 8) (slice_index ws 9) (slice_index ws 10) (slice_index ws 11)
+core_from words = core_of (take 8 words) (slice_index words 8) (slice_index words 9) (slice_index words 10) (slice_index words 11)
 
 abbrev pub words_of : Core → List ℕ
-words_of c = c.gprs ++ c.ip ∷ c.rp ∷ c.sp ∷ c.ef ∷ []
+words_of core = core.gprs ++ core.ip ∷ core.rp ∷ core.sp ∷ core.ef ∷ []
 
--- how a call came out in bits 31..24, the number of the stop in bits 23..16, its value in bits 15..0
+-- how a call came out in bits 31..24, the stop's number in bits 23..16, its value in bits 15..0
 abbrev pub answered : ℕ → ℕ → ℕ → ℕ
 answered how number value = how * 2 ^ 24 + number * 2 ^ 16 + value
 
@@ -29,19 +30,19 @@ abbrev pub outcome_number : machine.Outcome → ℕ
 outcome_number machine.stepped = answered 0 0 0
 outcome_number machine.halted = answered 1 0 0
 outcome_number machine.limit = answered 2 0 0
-outcome_number (machine.fault n v) = answered 3 n v
-outcome_number (machine.refused n) = answered 4 n 0
-outcome_number (machine.ended n) = answered 5 n 0
+outcome_number (machine.fault number value) = answered 3 number value
+outcome_number (machine.refused number) = answered 4 number 0
+outcome_number (machine.ended number) = answered 5 number 0
 
 -- a load: 0 for what is done, or the number of the refusal
 abbrev pub loaded_number : Result (Unit {0}) SheetRefusal → ℕ
-loaded_number (Ok u) = 0
-loaded_number (Err r) = sheet_refusal_number r
+loaded_number (Ok done) = 0
+loaded_number (Err refusal) = sheet_refusal_number refusal
 
 -- a written sheet: the number of records, or that of the refusal from bit 32 on
 abbrev pub written_number : Result ℕ SheetRefusal → ℕ
-written_number (Ok n) = n
-written_number (Err r) = sheet_refusal_number r * 2 ^ 32
+written_number (Ok count) = count
+written_number (Err refusal) = sheet_refusal_number refusal * 2 ^ 32
 
 -- a comparison: which of two lists comes first
 abbrev pub order_number : Ordering → ℕ
@@ -49,30 +50,32 @@ order_number Ordering.Equal = 0
 order_number Ordering.Less = 1
 order_number Ordering.Greater = 2
 
--- what a call leaves: its answer, and what each list that it may change holds, in the order of the parameters
+-- what a call leaves: its answer, and what each list that it may change holds, in the order of the
+-- parameters
 pub record Call : Type 0 where
   pub answer : ℕ
   pub lists : List (List ℕ)
 
 abbrev pub call : ℕ → List (List ℕ) → Call
-call n ls = record { answer = n; lists = ls }
+call answer lists = record { answer = answer; lists = lists }
 
 abbrev pub step_call : Turn Memory → Call
-step_call t = call (outcome_number t.outcome) (words_of t.core ∷ t.memory.words ∷ t.memory.marks ∷ [])
+step_call turn = call (outcome_number turn.outcome) (words_of turn.core ∷ turn.memory.words ∷ turn.memory.marks ∷ [])
 
--- what a run leaves: its end from bit 32 on and the steps in bits 31..0, and the core before the other lists
+-- what a run leaves: its end from bit 32 on and the steps in bits 31..0, and the core before the
+-- other lists
 abbrev pub ended_call : machine.Outcome → ℕ → Core → List (List ℕ) → Call
-ended_call end steps c others = call (outcome_number end * 2 ^ 32 + steps) (words_of c ∷ others)
+ended_call end steps core others = call (outcome_number end * 2 ^ 32 + steps) (words_of core ∷ others)
 
 abbrev pub run_call : Ran Memory → Call
-run_call t = ended_call t.end t.steps t.core (t.memory.words ∷ t.memory.marks ∷ [])
+run_call ran = ended_call ran.end ran.steps ran.core (ran.memory.words ∷ ran.memory.marks ∷ [])
 
 abbrev pub load_call : Left → Call
-load_call l = call (loaded_number l.answer) (words_of l.core ∷ (l.edition ∷ []) ∷ l.memory ∷ [])
+load_call left = call (loaded_number left.answer) (words_of left.core ∷ (left.edition ∷ []) ∷ left.memory ∷ [])
 
 abbrev pub write_call : Wrote → Call
-write_call w = call (written_number w.answer) (w.buffer ∷ [])
+write_call wrote = call (written_number wrote.answer) (wrote.buffer ∷ [])
 
 -- the part of the earlier list: the order, and the place from which on it is
 abbrev pub part_call : Part → Call
-part_call p = call (order_number p.order) ((p.from ∷ []) ∷ [])
+part_call part = call (order_number part.order) ((part.from ∷ []) ∷ [])

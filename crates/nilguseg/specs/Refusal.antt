@@ -1,4 +1,5 @@
--- How a host sees that a call is refused, in the layout of the header.
+-- How a host sees that a call is refused, in the layout of include/nilguseg.h: words by which the
+-- clauses `refused` of the exports speak of the answers that Host defines.
 use Rattle.std.specs.Prelude.{ℕ, ◌≡◌, ◌<◌, ◌*◌, ◌/◌, ◌^◌}
 use Rattle.memory.specs.Outcome.{Outcome, stepped, halted, limit, fault, refused, ended}
 use Rattle.nilguseg.specs.Host.{outcome_number}

@@ -1,5 +1,7 @@
-// What hosts' calls share: the core as words, and the numbers that they answer. The exports of `nilguseg_c`, `nilguseg_guarded`, `nilguseg_log` and `nilguseg_replay`
-// stand on it.
+//! What hosts' calls share: the core record as twelve words, the numbers that a call answers, and
+//! how a step, a run and a load are put back. The exports of `nilguseg_c`, `nilguseg_guarded`,
+//! `nilguseg_log` and `nilguseg_replay` stand on it. specs/Host.antt is the layout that
+//! include/nilguseg.h tells a host; the numbers in it are those of docs/NUMBERS.md.
 #![tactic(auto)]
 
 ghost use Rattle.std.specs.Prelude.{◌≡◌, ◌/◌, ◌^◌, [], ◌∷◌};
@@ -18,7 +20,8 @@ mod number;
 pub use core_record::core_of;
 pub use number::{order_number, written_number};
 
-// Puts back the core that a step leaves, and answers how it came out.
+/// Puts back the core that a step leaves, and answers how it came out: 0 stepped, 1 halted, 3 fault
+/// or 4 refused in bits 31..24, the number in bits 23..16, a fault's value in bits 15..0.
 pub fn put_step(step: Step, core: &mut [u16; 12]) -> u32
     ensures step { call result (core.new ∷ []) ≡ call (outcome_number (answer_of step.answer)) (words_of step.core ∷ []) }
     // The upper bits say how the step came out.
@@ -28,7 +31,9 @@ pub fn put_step(step: Step, core: &mut [u16; 12]) -> u32
     step_number(step.answer)
 }
 
-// Puts back the core that a run leaves, and answers its end, from bit 32 on, and its steps.
+/// Puts back the core that a run or a replay leaves, and answers its end, from bit 32 on, and the
+/// steps counted in bits 31..0. In bits 63..56 stands 1 halted, 2 limit, 3 fault, 4 refused or 5
+/// ended by the log, in bits 55..48 the number, in bits 47..32 a fault's value.
 pub fn put_run(run: Run, core: &mut [u16; 12]) -> u64
     ensures run { call result (core.new ∷ []) ≡ ended_call (end_of run.end) run.steps run.core [] }
     // The upper bits say how the run came out.
@@ -38,7 +43,8 @@ pub fn put_run(run: Run, core: &mut [u16; 12]) -> u64
     end_number(run.end) as u64 * 0x100000000 + run.steps as u64
 }
 
-// Puts back the core and the edition that a load leaves, and answers what it comes to.
+/// Puts back the core and the edition that a load leaves, and answers 0, or the number of the
+/// refusal.
 pub fn put_load(load: Load, core: &mut [u16; 12], edition: &mut u16) -> u32
     ensures { call result (core.new ∷ (edition.new ∷ []) ∷ []) ≡ call (loaded_number load.answer) (words_of load.core ∷ (load.edition ∷ []) ∷ []) }
 {

@@ -1,4 +1,5 @@
-// The numbers that a call answers to C. They are functions, since a number alone doesn't say of what it is, and neither side of most is of this crate.
+// The numbers that a call answers to C. They are functions, since a number alone doesn't say of
+// what it is, and neither side of most is of this crate.
 ghost use Rattle.std.specs.Prelude.{◌≡◌, ◌/◌, ◌^◌};
 ghost use Rattle.emulator.specs.Answers.{answer_of, end_of};
 ghost use Rattle.nilguseg.specs.Host.{answered, outcome_number, loaded_number, written_number, order_number};
@@ -17,6 +18,8 @@ fn number(how: u8, number: u8, value: u16) -> u32
     how as u32 * 0x1000000 + number as u32 * 0x10000 + value as u32
 }
 
+/// The number of a run's end: 1 halted, 2 limit, 3 fault, 4 refused or 5 ended by the log in bits
+/// 31..24, the number of docs/NUMBERS.md in bits 23..16, a fault's value in bits 15..0.
 pub fn end_number(end: End) -> u32
     ensures number { result ≡ outcome_number (end_of end) }
     // The upper bits say how the run came out.
@@ -34,7 +37,7 @@ pub fn end_number(end: End) -> u32
     }
 }
 
-// A step that stops has the number of a run that ends so.
+/// The number of a step: 0 if it stepped. One that stops has the number of a run that ends so.
 pub fn step_number(answer: Answer) -> u32
     ensures number { result ≡ outcome_number (answer_of answer) }
     // The upper bits say how the step came out.
@@ -48,6 +51,7 @@ pub fn step_number(answer: Answer) -> u32
     }
 }
 
+/// The number of a load: 0 if it is done, or that of the refusal.
 pub fn loaded_number(answer: Result<(), SheetRefusal>) -> u32
     ensures { result ≡ loaded_number answer }
 {
@@ -57,6 +61,7 @@ pub fn loaded_number(answer: Result<(), SheetRefusal>) -> u32
     }
 }
 
+/// The number of a write: that of the records in bits 31..0, or that of the refusal from bit 32 on.
 pub fn written_number(answer: Result<usize, SheetRefusal>) -> u64
     ensures { result ≡ written_number answer }
 {
@@ -66,6 +71,8 @@ pub fn written_number(answer: Result<usize, SheetRefusal>) -> u64
     }
 }
 
+/// The number of a comparison: 0 for equal lists, 1 where the first comes first, 2 where the second
+/// does.
 pub fn order_number(order: Ordering) -> u32
     ensures { result ≡ order_number order }
 {

@@ -31,7 +31,7 @@ whole_core ws l h =
     }
 
 module _ (c : Core) (ed : ℕ) (mem sheet new held : List ℕ) (n : ℕ) (whole : WholeCore c) (words : Words mem) (sizes : length held ≡ length mem) (below : n < 2 ^ 32) where
-  -- a number below 2 ^ 32 is no refusal's, so it counts the records that stand at the buffer's front
+  -- a number below 2 ^ 32 is no refusal's, so it counts the records at the buffer's front
   pub loads_back : n ≡ written_number (write_sheet_of c ed mem sheet).answer → new ≡ (write_sheet_of c ed mem sheet).buffer
       → load_sheet_of (take n new) held ≡ left (Ok tt) c ed mem
   unfolding write_sheet_of

@@ -1,7 +1,7 @@
 -- What relates the answers of two calls.
 use Rattle.std.specs.Prelude.{ℕ, ◌==◌, if◌then◌else◌}
 
--- the number of a comparison once the lists have changed places: 1, the first comes first, becomes 2, the second does, and 2 becomes 1; 0, they are
--- equal, stays
+-- the number of a comparison once the lists have changed places: 1, the first comes first, becomes
+-- 2, the second does, and 2 becomes 1; 0, they are equal, stays
 abbrev pub exchanged : ℕ → ℕ
-exchanged n = if n == 1 then 2 else (if n == 2 then 1 else n)
+exchanged number = if number == 1 then 2 else (if number == 2 then 1 else number)

@@ -1,6 +1,11 @@
-// What C and Rust hosts call to load, run and write, and to compare word lists. A slice is a pointer and then a length, an array a pointer.
-// `Instruction::decode` must have no caller here but the cycle, or it is not inlined into the run: see `nilguseg_words`.
+//! What C and Rust hosts call to step, run, load and write, and to compare word lists:
+//! libnilguseg.a. A slice is a pointer and then a length, which counts elements, not bytes; an
+//! array is a pointer. include/nilguseg.h tells a C host what each call takes and answers. The
+//! numbers of faults and refusals are those of docs/NUMBERS.md.
 #![tactic(auto)]
+
+// `Instruction::decode` must have no caller here but the cycle, or it is not inlined into the run:
+// see `nilguseg_words`.
 
 ghost use Rattle.std.specs.Prelude.{◌≡◌, ◌≢◌, ◌<◌, ◌≤◌, ◌+◌, ◌*◌, ◌/◌, ◌^◌, ℕ, List, [], ◌∷◌, length, take, Ok, None, MatchOption};
 ghost use Rattle.memory.specs.Memory.{lent};
@@ -19,7 +24,13 @@ use nilguseg::{core_of, order_number, put_load, put_run, put_step, written_numbe
 use order::{compare, earlier_part};
 use sheet::{load_sheet, load_words, write_sheet};
 
-// One step of the core.
+/// One step: fetch the word at ip, advance ip, decode, execute (docs/MACHINE.md, One step).
+///
+/// Lent for writing: the twelve words of the core, memory, and as many marks as memory has words,
+/// to which the step adds and of which it clears none. The edition is 1 or 2. The answer has 0
+/// stepped, 1 halted before, 3 fault or 4 refused in bits 31..24, the number in bits 23..16 and a
+/// fault's value in bits 15..0. Faults are 10 to 14. A refusal, by the first of 1, 2 and 34, leaves
+/// all that was lent.
 #[unsafe(no_mangle)]
 pub extern "C" fn nilguseg_step(
     core: &mut [u16; 12],
@@ -39,7 +50,12 @@ pub extern "C" fn nilguseg_step(
     put_step(core_of(*core).step(memory, marks, edition), core)
 }
 
-// A run of the core, of at most `limit` steps.
+/// A run of at most `limit` steps (docs/MACHINE.md, The run).
+///
+/// It is lent what `nilguseg_step` is, and sets all marks to 0 first. The answer has 1 halted,
+/// 2 limit, 3 fault or 4 refused in bits 63..56, the number in bits 55..48, a fault's value in bits
+/// 47..32 and the steps counted in bits 31..0. Faults are 10 to 14. A refusal, by the first of 1, 2
+/// and 34, leaves all that was lent, the marks too, and has 0 steps.
 #[unsafe(no_mangle)]
 pub extern "C" fn nilguseg_run(
     core: &mut [u16; 12],
@@ -64,7 +80,11 @@ pub extern "C" fn nilguseg_run(
     put_run(core_of(*core).run(memory, marks, edition, limit), core)
 }
 
-// Loads a plain word list.
+/// Loads a plain word list: memory becomes its words, and 0 past them.
+///
+/// Lent for reading: the words. Lent for writing: the core, which becomes a fresh one, the edition,
+/// which becomes 1, and memory. The answer is 0, or the number of the refusal, the first of 1 and
+/// 3; then memory keeps its words, and the host still gets the fresh core and edition 1.
 #[unsafe(no_mangle)]
 pub extern "C" fn nilguseg_load_words(
     core: &mut [u16; 12],
@@ -84,7 +104,12 @@ pub extern "C" fn nilguseg_load_words(
     put_load(load_words(words, memory), core, edition)
 }
 
-// Loads a rule sheet.
+/// Loads a rule sheet (docs/SHEETS.md, The records).
+///
+/// Lent for reading: the sheet's 32-bit records. Lent for writing: the core, the edition and
+/// memory, which become what the sheet says. The answer is 0, or the number of the refusal: 1, or,
+/// record by record, the first of 20, 21, 22, 34, 23, 26, 25 and 24. Then memory keeps its words,
+/// and the host gets a fresh core and edition 1.
 #[unsafe(no_mangle)]
 pub extern "C" fn nilguseg_load_sheet(
     core: &mut [u16; 12],
@@ -104,7 +129,11 @@ pub extern "C" fn nilguseg_load_sheet(
     put_load(load_sheet(sheet, memory), core, edition)
 }
 
-// Writes the rule sheet of a core, an edition and memory.
+/// Writes the rule sheet of a core, an edition and memory (docs/SHEETS.md, What the writer gives).
+///
+/// Lent for reading: the core and memory. Lent for writing: a buffer for the sheet's 32-bit
+/// records. The answer is the number of records, the end included; the buffer past them stays. A
+/// refusal, by the first of 1, 34 and 4, has its number in bits 63..32 and leaves the buffer.
 #[unsafe(no_mangle)]
 pub extern "C" fn nilguseg_write_sheet(
     core: &[u16; 12],
@@ -131,7 +160,10 @@ pub extern "C" fn nilguseg_write_sheet(
     written_number(write_sheet(core_of(*core), edition, memory, sheet))
 }
 
-// Which of two word lists comes first.
+/// Which of two word lists comes first (docs/MACHINE.md, Word lists and their order).
+///
+/// Lent for reading: the two lists, of any lengths; they may overlap. The answer is 0 for equal
+/// lists, 1 where the first comes first, 2 where the second does. No test refuses it.
 #[unsafe(no_mangle)]
 pub extern "C" fn nilguseg_compare(first: &[u16], second: &[u16]) -> u32
     ensures order { result ≡ order_number (order_of first.now second.now) }
@@ -141,7 +173,12 @@ pub extern "C" fn nilguseg_compare(first: &[u16], second: &[u16]) -> u32
     order_number(compare(first, second))
 }
 
-// The part of the earlier list from the first place where they differ on.
+/// The part of the earlier list from the first place where they differ on.
+///
+/// Lent for reading: the two lists, of any lengths. Lent for writing: `from`, which becomes the
+/// place from which on the part is, counted in words from 0: in the second list for the answer 2,
+/// else in the first. It is that list's length where the part is empty. The answer is that of
+/// `nilguseg_compare`. No test refuses it.
 #[unsafe(no_mangle)]
 pub extern "C" fn nilguseg_earlier(first: &[u16], second: &[u16], from: &mut usize) -> u32
     ensures { call result ((from.new ∷ []) ∷ []) ≡ part_call (part_of first.now second.now) }

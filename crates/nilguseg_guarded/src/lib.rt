@@ -1,5 +1,6 @@
-// What C and Rust hosts call to run with rights. It stands in a library of its own: in one with the plain run, the two would share a loop, and the
-// plain run would test at each access whether there are rights.
+//! What C and Rust hosts call to run with rights (docs/MACHINE.md, Rights), as include/nilguseg.h
+//! tells them: libnilguseg_guarded.a. It is a library of its own: in one with the plain run, the
+//! two would share a loop, and the plain run would test at each access whether there are rights.
 #![tactic(auto)]
 
 ghost use Rattle.std.specs.Prelude.{[], ◌∷◌, ◌≡◌, Some, MatchOption};
@@ -13,7 +14,12 @@ ghost use Rattle.refusal_laws.specs.Tests.{first_failing, run_tests};
 
 use nilguseg::{core_of, put_run};
 
-// A run of the core, of at most `limit` steps, with rights over memory's pages: a byte for each.
+/// A run of at most `limit` steps with rights over memory's pages (docs/MACHINE.md, Rights).
+///
+/// It is lent what `nilguseg_run` is, and for reading the rights: 256 bytes, one for each page of
+/// 256 addresses, each the sum of 1 read, 2 write and 4 execute. It answers as that does, with one
+/// more fault, 33, an access whose right is absent. A refusal, by the first of 1, 2, 32 and 34,
+/// leaves all that was lent for writing, and has 0 steps.
 #[unsafe(no_mangle)]
 pub extern "C" fn nilguseg_run_guarded(
     core: &mut [u16; 12],

@@ -1,5 +1,7 @@
-// What C and Rust hosts call to run with a log. It stands in a library of its own: in one with the plain run, `Instruction::decode` and
-// `execute` would have two callers, and the compiler would inline them into neither loop.
+//! What C and Rust hosts call to run with a log (docs/MACHINE.md, Logs and replays; docs/LOGS.md),
+//! as include/nilguseg.h tells them: libnilguseg_log.a. It is a library of its own: in one with the
+//! plain run, `Instruction::decode` and `execute` would have two callers, and the compiler would
+//! inline them into neither loop.
 #![tactic(auto)]
 
 ghost use Rattle.std.specs.Prelude.{[], ◌∷◌, ◌≡◌, ◌*◌, ◌/◌, ◌^◌, ◌≤◌, length, take, Some, None, MatchOption};
@@ -16,7 +18,8 @@ ghost use Rattle.refusal_laws.specs.Tests.{first_failing, run_tests};
 use emulator::LoggedRun;
 use nilguseg::{core_of, put_run};
 
-// Puts back the core that a run with a log leaves and the number of its log words, and answers its end and its steps.
+// Puts back the core that a run with a log leaves and the number of its log words, and answers its
+// end and its steps.
 fn put_logged_run(ended: LoggedRun, core: &mut [u16; 12], logged: &mut usize) -> u64
     ensures run { call result (core.new ∷ (logged.new ∷ []) ∷ []) ≡ ended_call (end_of ended.run.end) ended.run.steps ended.run.core ((ended.logged ∷ []) ∷ []) }
     // The upper bits say how the run came out.
@@ -26,7 +29,13 @@ fn put_logged_run(ended: LoggedRun, core: &mut [u16; 12], logged: &mut usize) ->
     put_run(ended.run, core)
 }
 
-// A run of the core, of at most `limit` steps, with a log. `logged` gets the number of its words.
+/// A run of at most `limit` steps with a log of its reads (docs/MACHINE.md, Logs and replays).
+///
+/// It is lent what `nilguseg_run` is, and for writing a buffer for the log's 32-bit words, two for
+/// each read, and `logged`, which becomes the number of them; the buffer past them stays. It
+/// answers as that does, or with 5 in bits 63..56 and 30 in bits 55..48 where fewer than four log
+/// words were free before a step. A refusal, by the first of 1, 2 and 34, has 0 steps; `logged`
+/// becomes 0, and all else that was lent stays.
 #[unsafe(no_mangle)]
 pub extern "C" fn nilguseg_run_logged(
     core: &mut [u16; 12],
@@ -61,7 +70,11 @@ pub extern "C" fn nilguseg_run_logged(
     put_logged_run(ended, core, logged)
 }
 
-// The same with rights over memory's pages: a byte for each.
+/// `nilguseg_run_logged` with rights over memory's pages (docs/MACHINE.md, Rights).
+///
+/// It is lent for reading the rights too, 256 bytes as `nilguseg_run_guarded` has them, with one
+/// more fault, 33, and one more refusal, 32, which is tested after 2 and before 34. A refusal
+/// leaves what it leaves without rights.
 #[unsafe(no_mangle)]
 pub extern "C" fn nilguseg_run_logged_guarded(
     core: &mut [u16; 12],

@@ -1,5 +1,7 @@
-// What C and Rust hosts call to see a run again from its log. It stands in a library of its own: in one with a run, `Instruction::decode` and
-// `execute` would have two callers, and the compiler would inline them into neither loop.
+//! What C and Rust hosts call to see a run again from its log (docs/MACHINE.md, Logs and replays;
+//! docs/LOGS.md), as include/nilguseg.h tells them: libnilguseg_replay.a. It is a library of its
+//! own: in one with a run, `Instruction::decode` and `execute` would have two callers, and the
+//! compiler would inline them into neither loop.
 #![tactic(auto)]
 
 ghost use Rattle.std.specs.Prelude.{[], ◌∷◌, ◌≡◌, Some, None, MatchOption};
@@ -13,7 +15,13 @@ ghost use Rattle.replay.specs.Replay.{replay_of};
 use nilguseg::{core_of, put_run};
 use replay::{replay, replay_guarded};
 
-// The run that made the log, seen again: `size` is the length of the memory that it ran on.
+/// The run that made a log, seen again without its memory (docs/MACHINE.md, Logs and replays).
+///
+/// Lent for writing: the core that the run started with. Lent for reading: the log's 32-bit words.
+/// `size` is the length of the run's memory in words. If the run wasn't refused and didn't end by
+/// 30, the answer is the run's, and the core becomes the one that it left. Where the log isn't that
+/// of the reads that are made, the answer has 5 in bits 63..56 and 31 in bits 55..48. Then, and at
+/// a refusal, by the first of 1 and 34, it has 0 steps, and the core stays.
 #[unsafe(no_mangle)]
 pub extern "C" fn nilguseg_replay(
     core: &mut [u16; 12],
@@ -33,7 +41,8 @@ pub extern "C" fn nilguseg_replay(
     put_run(run, core)
 }
 
-// The same of a run with rights.
+/// `nilguseg_replay` of a run with rights (docs/MACHINE.md, Rights), which are lent for reading:
+/// the run's own 256 bytes. One more refusal, 32, is tested after 1 and before 34.
 #[unsafe(no_mangle)]
 pub extern "C" fn nilguseg_replay_guarded(
     core: &mut [u16; 12],

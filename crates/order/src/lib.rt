@@ -1,6 +1,10 @@
-// Which of two word lists comes first. They are compared at the first place where they differ, the shorter taken as followed by zeros. (Both lists go
-// side by side, as in std's `cmp`; a struct of two would be taken apart in each function.)
+//! Which of two word lists comes first, and the part of it from the first place where they differ
+//! on (docs/MACHINE.md, Word lists and their order). specs/ says what the order is; that it is one,
+//! total and transitive, is shown in `order_laws`.
 #![tactic(auto)]
+
+// Both lists go side by side, as in std's `cmp`; a struct of two would be taken apart in each
+// function.
 
 ghost use Rattle.std.specs.Prelude.{◌≡◌, min, length};
 ghost use Rattle.std.specs.Ordering.{nat_cmp, min_by_ordering};
@@ -8,11 +12,13 @@ ghost use Rattle.order.specs.Order.{word_in, place_of, order_of, part_of, slice_
 
 use std::cmp::Ordering;
 
-// What `earlier` hands back, in numbers: which list comes first, and the place in it from which on it is handed back. Where they are equal, that
-// is the end of the first.
+/// What `earlier` hands back, in numbers.
 #[derive(Clone, Copy, PartialEq, Eq, Debug)]
 pub struct Part {
+    /// Which list comes first, as `compare` answers it.
     pub order: Ordering,
+    /// The place, counted in words from 0, from which on the part is: in the second list where that
+    /// comes first, else in the first. It is that list's length where the part is empty.
     pub from: usize,
 }
 
@@ -65,14 +71,16 @@ fn earlier_list<'a>(order: Ordering, first: &'a [u16], second: &'a [u16]) -> &'a
     }
 }
 
-// Which of the two comes first: `Less` the first, `Greater` the second; equal lists differ in trailing zeros only.
+/// Which of the two comes first: `Less` the first, `Greater` the second. `Equal` lists differ in
+/// trailing zeros only. Lists of any lengths are compared.
 pub fn compare(first: &[u16], second: &[u16]) -> Ordering
     ensures { result ≡ order_of first.now second.now }
 {
     order_at(first, second, place(first, second))
 }
 
-// The part of the earlier list from the first place where they differ on: its empty end if it is over there, and that of the first if they are equal.
+/// The part of the earlier list from the first place where they differ on: its empty end if it is
+/// over there, and that of the first if they are equal.
 pub fn earlier<'a>(first: &'a [u16], second: &'a [u16]) -> &'a [u16]
     ensures { slice_of result ≡ earlier_part (slice_of first.entry) (slice_of second.entry) }
 {
@@ -81,7 +89,7 @@ pub fn earlier<'a>(first: &'a [u16], second: &'a [u16]) -> &'a [u16]
     tail(earlier_list(order, first, second), at)
 }
 
-// The same part in numbers, for a host.
+/// The part that `earlier` hands back, in numbers, for a host.
 pub fn earlier_part(first: &[u16], second: &[u16]) -> Part
     ensures { result ≡ part_of first.now second.now }
 {

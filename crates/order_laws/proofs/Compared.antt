@@ -1,4 +1,5 @@
--- Why two lists compare as they do: a first place where they differ, or none. That the order is total and transitive follows from this alone.
+-- Why two lists compare as they do: a first place where they differ, or none. That the order is
+-- total and transitive follows from this alone.
 use Rattle.std.proofs.Common.{◌≡◌, ℕ, ◌<◌, ◌≤◌, max, List, length, refl, sym, ◌∙◌, ⊎_elim, arith}
 use Rattle.std.proofs.lemmas.Bool.{cases_lt, cases_order}
 use Rattle.std.proofs.lemmas.Bool.Decides.{nat_tests}

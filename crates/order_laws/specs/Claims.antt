@@ -1,4 +1,4 @@
--- What is claimed of the order of word lists (document 02, CR 1).
+-- What is claimed of the order of word lists (docs/MACHINE.md, Word lists and their order).
 use Rattle.std.specs.Ordering.{ordering_reverse}
 use Rattle.std.specs.declared.cmp.Ordering.{Ordering}
 use Rattle.std.specs.Prelude.{ℕ, ◌<◌, min, max, List, ◌∷◌, ◌++◌, ◌⊎◌, ◌≡◌, replicate, Err}
@@ -63,7 +63,8 @@ pub record Smaller (a b : List ℕ) (w : ℕ) : Type 0 where
   pub is_least : w ≡ min (word_in a (place_of a b)) (word_in b (place_of a b))
   pub below_other : w < max (word_in a (place_of a b)) (word_in b (place_of a b))
 
--- that place is the first where they differ, if they are not equal; the first word of the part, if it has one, is the smaller one there
+-- that place is the first where they differ, if they are not equal; the first word of the part, if
+-- it has one, is the smaller one there
 pub record FirstDifference : Type 0 where
   pub same_before : (a b : List ℕ) (k : ℕ) → k < place_of a b → word_in a k ≡ word_in b k
   pub differ_there : (a b : List ℕ) → (Equal a b → ⊥) → word_in a (place_of a b) ≡ word_in b (place_of a b) → ⊥

@@ -1,5 +1,7 @@
-// Compares lists with each other, and prints a table of the short ones and a line for each two of the long ones. A cell is the order, the place from which
-// on the part of the earlier list is, and after a colon the part; of a long list, how long the part is, and its first word.
+//! Compares lists with each other (docs/MACHINE.md, Word lists and their order), and prints a table
+//! of the short ones and a line for each two of the long ones. A cell is the order, the place from
+//! which on the part of the earlier list is, and after a colon the part; of a long list, how long
+//! the part is, and its first word.
 #![tactic(auto)]
 
 use std::cmp::Ordering;
@@ -68,8 +70,8 @@ fn zeros_but(room: &mut [u16], n: usize, at: usize, w: u16) -> &[u16] {
     room.get(..n).unwrap_or(room)
 }
 
-// Two such lists: how long the part is, and its first word.
-// (Each is told by its length, a place and a word: a list of 70,000 words spelled out would be no plainer, and there is no heap.)
+// Two such lists: how long the part is, and its first word. (Each is told by its length, a place
+// and a word: a list of 70,000 words spelled out would be no plainer, and there is no heap.)
 fn long(rt: &impl Print, n: usize, m: usize, at: usize, v: u16, w: u16) -> io::Result<()> {
     let mut first = [0; 70000];
     let mut second = [0; 70000];

@@ -157,7 +157,8 @@ unfolding first_failing
 replay_number rights edition size =
     by_test (refused_length size) (λ a. rw a (last_number rights edition 1)) (λ a. rw a (last_number rights edition 0))
 
--- What its tests accept isn't refused later: a cycle steps or faults, and a run ends by halt, by the limit, by its log or by a fault.
+-- What its tests accept isn't refused later: a cycle steps or faults, and a run ends by halt, by
+-- the limit, by its log or by a fault.
 abbrev Accepted : Outcome → Type 0
 Accepted o = outcome_refusal o ≡ None
 

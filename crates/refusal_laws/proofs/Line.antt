@@ -1,4 +1,5 @@
--- The line that the program prints: `refused` and the number of the first test that fails, and another word where none fails.
+-- The line that the program prints: `refused` and the number of the first test that fails, and
+-- another word where none fails.
 use Rattle.std.specs.Prelude.{ℕ, ◌≡◌, ◌+◌, ◌%◌, false, ltb, eqb, List, [], ◌∷◌, length, get_or, set, replicate, Option, Some, None, Result, Ok, Err}
 use mathlib.Core.Path.{refl, sym, ap, ◌∙◌}
 use native.Mathlib.Omega.{arith}
@@ -24,7 +25,8 @@ use Rattle.refusal_laws.specs.Tests.{first_failing, sheet_tests, program_tests}
 use Rattle.refusal_laws.proofs.Calls.{plain_run, run_number}
 use Rattle.refusal_laws.proofs.Sheets.{load_sheet_refused}
 
--- What a load leaves has the length that was lent, and an edition that no test refuses: so it can be run.
+-- What a load leaves has the length that was lent, and an edition that no test refuses: so it can
+-- be run.
 
 abbrev Known : ℕ → Type 0
 Known ed = refused_edition ed ≡ false

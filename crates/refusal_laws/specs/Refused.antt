@@ -1,4 +1,5 @@
--- Why and how a call is refused: by the first of its tests that fails, and with all that it was given or lent left as it was.
+-- Why and how a call is refused: by the first of its tests that fails, and with all that it was
+-- given or lent left as it was (docs/NUMBERS.md, What is left unchanged).
 use Rattle.std.specs.Prelude.{ℕ, ◌≡◌, List, [], ◌∷◌, length, Option, Some, None, IsSome, Result, Ok, Err}
 use Rattle.memory.specs.Log.{written}
 use Rattle.memory.specs.Memory.{Memory}
@@ -16,8 +17,8 @@ use Rattle.sheet.specs.declared.refusal.SheetRefusal.{SheetRefusal}
 use Rattle.line.specs.Line.{refused_line, line_of}
 use Rattle.refusal_laws.specs.Tests.{Test, first_failing, run_tests, replay_tests, words_tests, sheet_tests, write_tests, input_test, program_tests}
 
--- A call that makes these tests: it answers a refusal, the number of the first test that fails, exactly where one fails, and then what it leaves is
--- `unchanged`.
+-- A call that makes these tests: it answers a refusal, the number of the first test that fails,
+-- exactly where one fails, and then what it leaves is `unchanged`.
 pub record RefusedBy {A : Type 0} (tests : List Test) (refusal : Option ℕ) (leaves unchanged : A) : Type 0 where
   pub number : refusal ≡ first_failing tests
   pub kept : IsSome refusal → leaves ≡ unchanged

@@ -1,4 +1,5 @@
--- The tests by which a call may be refused: each with its number and whether it fails, and for each call their list in order.
+-- The tests by which a call may be refused (docs/NUMBERS.md, The order of the tests): each with its
+-- number and whether it fails, and for each call their list in order.
 use Rattle.std.specs.Prelude.{ℕ, ◌+◌, ◌%◌, Bool, false, not, ◌&&◌, ◌||◌, ◌==◌, nat_lt, nat_le, List, [], ◌∷◌, ◌++◌, length, Option, Some, None, if◌then◌else◌}
 use Rattle.std.specs.List.{list_any}
 use Rattle.execute.specs.Edition.{refused_edition}
@@ -59,33 +60,36 @@ write_tests c edition mem room =
 abbrev pub is_known : ℕ → Bool
 is_known k = k == 1 || k == 2 || k == 3 || k == 7 || k == 15
 
--- a bit is set that must be 0: of a preset among bits 27..20, of an end none, of any other record among bits 27..16
+-- a bit is set that must be 0: of a preset among bits 27..20, of an end none, of any other record
+-- among bits 27..16
 abbrev pub has_stray_bit : ℕ → Bool
 has_stray_bit w =
     if kind w == 3 then not (above20 w == 0)
     else if kind w == 15 then false
     else not (above16 w == 0)
 
--- a record w in its place: the load address is a, n records stand before it, and those of `after` after it
+-- a record w in its place, with the load address there: `before` counts the records that stand
+-- before it, and those of `after` stand after it
 abbrev pub record_tests : ℕ → ℕ → ℕ → ℕ → List ℕ → List Test
-record_tests size a n w after =
+record_tests size address before w after =
     test 20 (not (is_known (kind w)))
     ∷ test 21 (has_stray_bit w)
     ∷ test 22 (kind w == 3 && nat_lt 11 (register w))
     ∷ test 34 (kind w == 7 && refused_edition (low w))
-    ∷ test 23 (kind w == 2 && nat_le size a)
-    ∷ test 26 (kind w == 15 && not (count w == n))
+    ∷ test 23 (kind w == 2 && nat_le size address)
+    ∷ test 26 (kind w == 15 && not (count w == before))
     ∷ test 25 (kind w == 15 && not (length after == 0))
     ∷ []
 
 -- the load address after it
 abbrev pub address_past : ℕ → ℕ → ℕ
-address_past w a = if kind w == 1 then low w else if kind w == 2 then a + 1 else a
+address_past w address = if kind w == 1 then low w else if kind w == 2 then address + 1 else address
 
 -- record by record
 unfoldable pub each_record_tests : ℕ → ℕ → ℕ → List ℕ → List Test
-each_record_tests size a n [] = []
-each_record_tests size a n (w ∷ after) = record_tests size a n w after ++ each_record_tests size (address_past w a) (n + 1) after
+each_record_tests size address before [] = []
+each_record_tests size address before (w ∷ after) =
+    record_tests size address before w after ++ each_record_tests size (address_past w address) (before + 1) after
 
 -- some record is an end
 abbrev pub has_end : List ℕ → Bool

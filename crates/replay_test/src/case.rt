@@ -7,7 +7,7 @@ use instructions::{GPR, Register, SPR};
 use memory::{Fault, Stop};
 use std::array;
 
-// Bytes of a case.
+/// Bytes of a case.
 pub const SIZE: usize = 222;
 
 // Words of a case.
@@ -30,7 +30,8 @@ struct State {
     memory: Memory,
 }
 
-// How a step or a run comes out: its class, and the number and value of a fault (0 where there is none). These are the numbers that are recorded.
+// How a step or a run comes out: its class, and the number and value of a fault (0 where there is
+// none). These are the numbers that are recorded.
 #[derive(Clone, Copy, PartialEq, Eq)]
 struct Outcome {
     class: u16,
@@ -45,7 +46,8 @@ enum Asked {
     Run(u32),
 }
 
-// A case. A step has a limit and a number of steps recorded too, which say nothing.
+/// A recorded case.
+// A step has a limit and a number of steps recorded too, which say nothing.
 #[derive(Clone, Copy)]
 pub struct Case {
     asked: Asked,
@@ -110,7 +112,8 @@ impl State {
     }
 }
 
-// Whether the flags are those of this word; the condition changed and changed back leaves the core as it is.
+// Whether the flags are those of this word; the condition changed and changed back leaves the core
+// as it is.
 fn has_flags(core: Core, ef: u16) -> bool {
     let halted = ef % 2 == 1;
     let cond = ef / 2 % 2 == 1;
@@ -144,8 +147,9 @@ impl Outcome {
         }
     }
 
-    // The classes of a step: 0 stepped, 1 halted, 2 fault. No case is refused. (Functions and no `TryFrom`: a step and a run number their classes differently,
-    // and `None` means that no case is such.)
+    // The classes of a step: 0 stepped, 1 halted, 2 fault. No case is refused. (Functions and no
+    // `TryFrom`: a step and a run number their classes differently, and `None` means that no case
+    // is such.)
     fn of_step(answer: Answer) -> Option<Self> {
         match answer {
             Answer::Stepped => Some(Self::ended(0)),
@@ -167,6 +171,7 @@ impl Outcome {
 }
 
 impl Case {
+    /// The case of these bytes, as rust/differential/README.md lays them out. Any bytes are one.
     pub fn new(bytes: &[u8; SIZE]) -> Self {
         let words = words_of(bytes);
         let [kind, limit, mark] = part::<3>(&words, 0);
@@ -190,7 +195,8 @@ impl Case {
         }
     }
 
-    // Whether this machine answers as the Rust did.
+    /// Whether this machine answers as the Rust did: the step or the run, and of a run also the one
+    /// with a log and its replay.
     pub fn is_met(&self) -> bool {
         match self.asked {
             Asked::Step => self.steps_so(),

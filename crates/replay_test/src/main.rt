@@ -1,5 +1,6 @@
-// Replays recorded answers of the published Rust (rust/differential/README.md has the format of standard input) and counts those that
-// differ.
+//! Makes the steps and runs of which the published Rust's answers are recorded, sees each run again
+//! from its log, and counts the cases that differ (docs/MACHINE.md, One step, and The run).
+//! rust/differential/README.md has the format of standard input.
 #![tactic(auto)]
 
 mod case;

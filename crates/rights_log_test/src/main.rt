@@ -1,4 +1,5 @@
-// Runs with rights and a log that come to a refused access on page 2, and their replays.
+//! Runs with rights and a log that come to a refused access on page 2, and their replays
+//! (docs/MACHINE.md, Rights, and Logs and replays).
 #![tactic(auto)]
 
 use emulator::{Core, LoggedRun, Run};
@@ -50,7 +51,8 @@ fn show_replay(rt: &impl Print, byte: u8, log: &[u32]) -> io::Result<()> {
     println!(rt)
 }
 
-// A run of the rule, where page 2 has the byte, and replays of what it logged: with the same rights, and with every right there.
+// A run of the rule, where page 2 has the byte, and replays of what it logged: with the same
+// rights, and with every right there.
 fn show(rt: &impl Print, rule: &[u16; 2], byte: u8, log: &mut [u32]) -> io::Result<()> {
     let mut words = [0; WORDS];
     words[..2].copy_from_slice(rule);

@@ -74,7 +74,8 @@ const ACCESSES: [Access; 7] = [
     },
 ];
 
-// The largest memory with the rule, from where it starts on, and 42 at the address, unless a fetch's rule is there.
+// The largest memory with the rule, from where it starts on, and 42 at the address, unless a
+// fetch's rule is there.
 fn words(access: &Access, start: u16, address: u16) -> [u16; MOST] {
     let mut words = [0; MOST];
     words[usize::from(start.wrapping_add(1))] = HLT;
@@ -83,7 +84,8 @@ fn words(access: &Access, start: u16, address: u16) -> [u16; MOST] {
     words
 }
 
-// The rights: the address's page has the byte, the rule's page, if it is another, only execute, and the others what the byte lacks.
+// The rights: the address's page has the byte, the rule's page, if it is another, only execute, and
+// the others what the byte lacks.
 fn rights(start: u16, address: u16, byte: u8) -> [u8; 256] {
     let mut rights = [byte ^ 7; 256];
     rights[usize::from(start) / 256] = 4;
@@ -91,7 +93,8 @@ fn rights(start: u16, address: u16, byte: u8) -> [u8; 256] {
     rights
 }
 
-// Makes the access at the address, by the byte of rights, in a memory of so many words. The rule is at `rule`, or, for a fetch, at the address.
+// Makes the access at the address, by the byte of rights, in a memory of so many words. The rule is
+// at `rule`, or, for a fetch, at the address.
 fn show(
     rt: &impl Print,
     access: &Access,
@@ -127,7 +130,7 @@ fn show(
     )
 }
 
-// Each byte of rights, in the middle of a page.
+/// Each byte of rights, in the middle of a page.
 pub fn bytes(rt: &impl Print) -> io::Result<()> {
     for access in &ACCESSES {
         for byte in 0..=7 {
@@ -137,7 +140,8 @@ pub fn bytes(rt: &impl Print) -> io::Result<()> {
     Ok(())
 }
 
-// Just without and with the right, at the last address of the first page, the first of the second, and the last of all.
+/// Just without and with the right, at the last address of the first page, the first of the second,
+/// and the last of all.
 pub fn borders(rt: &impl Print) -> io::Result<()> {
     for address in [255, 256, 65535] {
         for access in &ACCESSES {
@@ -149,7 +153,7 @@ pub fn borders(rt: &impl Print) -> io::Result<()> {
     Ok(())
 }
 
-// The same in a memory shorter than a page, at its last address and after it.
+/// The same in a memory shorter than a page, at its last address and after it.
 pub fn short(rt: &impl Print) -> io::Result<()> {
     for address in [99, 100] {
         for access in &ACCESSES {

@@ -1,5 +1,6 @@
-// Runs short rules with rights over memory's pages: an access of each kind by each byte of rights, at the borders of pages and of memory; runs that go
-// on to a page, or end before they do; and calls that are refused.
+//! Runs short rules with rights over memory's pages (docs/MACHINE.md, Rights): an access of each
+//! kind by each byte of rights, at the borders of pages and of memory; runs that go on to a page,
+//! or end before they do; and calls that are refused.
 #![tactic(auto)]
 
 mod access;

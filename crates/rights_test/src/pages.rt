@@ -20,6 +20,8 @@ fn show(rt: &impl Print, core: Core, limit: u32, page: u8) -> io::Result<()> {
     println!(rt; "ip {} mark {}", run.core.ip, marks[first])
 }
 
+/// Runs to a page in the middle, to the first and to the last, and runs that the limit or halt ends
+/// before.
 pub fn all(rt: &impl Print) -> io::Result<()> {
     let first = Core::new();
     let last = Core { ip: 65535, ..first };

@@ -7,7 +7,8 @@ use replay::replay_guarded;
 use shown::Shown;
 use std::io;
 
-// The run, the logged run and the replay on so many words with so many marks, and whether the core and all that was lent are as before.
+// The run, the logged run and the replay on so many words with so many marks, and whether the core
+// and all that was lent are as before.
 fn show(rt: &impl Print, size: usize, marked: usize, rights: &[u8]) -> io::Result<()>
     requires size { size ≤ 2 }
     requires marked { marked ≤ 2 }
@@ -40,6 +41,7 @@ fn show(rt: &impl Print, size: usize, marked: usize, rights: &[u8]) -> io::Resul
     println!(rt; " log {count} core kept {kept} lent kept {lent}")
 }
 
+/// Rights of another length, with a byte above 7, and beside what refuses memory or the marks.
 pub fn all(rt: &impl Print) -> io::Result<()> {
     let sevens = [7; 257];
     for length in [0, 255, 257] {

@@ -1,4 +1,4 @@
--- The definitions at small sheets (document 01, The rule sheet; the program; Stops), computed.
+-- The definitions at small sheets (docs/SHEETS.md), computed.
 use Prim.Native.Nat.{ℕ}
 use mathlib.Core.List.{List, [], ◌∷◌, map}
 use mathlib.Core.Path.{◌≡◌, refl}
@@ -55,7 +55,8 @@ pub refusals : map answer
 unfolding load_sheet_of refused_length read_from record_of with_register
 refusals = refl
 
--- kind 7: bits that must be 0, an edition neither 1 nor 2, the first of two bad records, and an edition that the end counts or doesn't
+-- kind 7: bits that must be 0, an edition neither 1 nor 2, the first of two bad records, and an
+-- edition that the end counts or doesn't
 pub edition_refusals : map answer
     ((0x70010002 ∷ [])
     ∷ (0x78000002 ∷ [])

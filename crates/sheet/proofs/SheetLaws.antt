@@ -1,4 +1,5 @@
--- Laws of reading a sheet, one for each way through the two loops that read it, and the loops' invariants.
+-- Laws of reading a sheet, one for each way through the two loops that read it, and the loops'
+-- invariants.
 use Rattle.std.specs.Prelude.{if◌then◌else◌, Result, Ok, Err}
 use Prim.Native.Nat.{ℕ, ◌+◌, ◌<◌, ◌≤◌}
 use mathlib.Core.Bool.{Bool, true, false}

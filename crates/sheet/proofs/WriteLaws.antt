@@ -1,4 +1,5 @@
--- Laws of writing a sheet, one for each way through the code, and the loops' invariants: what is left of the records makes the whole.
+-- Laws of writing a sheet, one for each way through the code, and the loops' invariants: what is
+-- left of the records makes the whole.
 use Rattle.std.specs.Prelude.{if◌then◌else◌}
 use Prim.Native.Nat.{ℕ, suc, ◌+◌, ◌*◌, ◌-◌, ◌<◌, ◌≤◌}
 use mathlib.Core.Bool.{Bool, true, false}

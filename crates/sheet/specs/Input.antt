@@ -1,4 +1,4 @@
--- A program's input as records, low byte first (document 01, Stops; the program).
+-- A program's input as records, low byte first (docs/SHEETS.md, What the program reads).
 use Rattle.std.specs.Prelude.{ℕ, Result, Ok, Err, ◌+◌, ◌*◌, ◌%◌, ◌^◌, List, [], ◌∷◌, length, ltb, eqb, if◌then◌else◌}
 use Rattle.sheet.specs.declared.refusal.SheetRefusal.{SheetRefusal}
 use Rattle.sheet.specs.declared.refusal.SheetRefusal.TheVariants.{Input}
@@ -20,8 +20,8 @@ input_records bytes = if eqb (length bytes % 4) 0 then (if ltb 32768 (length byt
 
 -- the records of an input, put at the front of a buffer that has room for them
 abbrev pub put_in : Result (List ℕ) SheetRefusal → List ℕ → Wrote
-put_in (Ok rs) out = in_front rs out
-put_in (Err r) out = wrote (Err r) out
+put_in (Ok records) out = in_front records out
+put_in (Err refusal) out = wrote (Err refusal) out
 
 abbrev pub input_of : List ℕ → List ℕ → Wrote
 input_of bytes out = put_in (input_records bytes) out

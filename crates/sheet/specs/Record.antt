@@ -1,4 +1,4 @@
--- A record of a rule sheet (document 01, The rule sheet, and document 02, CR 5): a 32-bit word, bits 31..28 the kind.
+-- A record of a rule sheet (docs/SHEETS.md, The records): a 32-bit word, bits 31..28 the kind.
 use Rattle.std.specs.Prelude.{ℕ, ◌-◌, ◌/◌, ◌%◌, ◌^◌, Result, Ok, Err, ltb, eqb, if◌then◌else◌}
 use Rattle.execute.specs.Edition.{refused_edition}
 use Rattle.instructions.specs.Reg.{gpr_at, spr_at}
@@ -28,7 +28,8 @@ low w = w % 2 ^ 16
 abbrev pub count : ℕ → ℕ
 count w = w % 2 ^ 28
 
--- the record that a word is, or the test that it fails: unknown kind, a bit set that must be 0, register above 11, edition neither 1 nor 2
+-- the record that a word is, or the test that it fails: unknown kind, a bit set that must be 0,
+-- register above 11, edition neither 1 nor 2
 unfoldable pub record_of : ℕ → Result Record SheetRefusal
 record_of w =
     if eqb (kind w) 1 then (if eqb (above16 w) 0 then Ok (Place (low w)) else Err NonzeroBit)
@@ -42,7 +43,8 @@ record_of w =
 
 -- a register by its number, 0 to 7 general, 8 ip, 9 rp, 10 sp, 11 ef, and the core with it changed
 unfoldable pub register_of : Core → ℕ → ℕ
-register_of c n = if ltb n 8 then read_gpr c (gpr_at n) else read_spr c (spr_at (n - 8))
+register_of core number = if ltb number 8 then read_gpr core (gpr_at number) else read_spr core (spr_at (number - 8))
 
 unfoldable pub with_register : Core → ℕ → ℕ → Core
-with_register c n v = if ltb n 8 then write_gpr c (gpr_at n) v else write_spr c (spr_at (n - 8)) v
+with_register core number value =
+    if ltb number 8 then write_gpr core (gpr_at number) value else write_spr core (spr_at (number - 8)) value

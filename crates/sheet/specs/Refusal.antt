@@ -1,12 +1,12 @@
--- Why a load, a write or an input is refused (document 01, Stops, and document 02, CR 5).
+-- Why a load, a write or an input is refused (docs/NUMBERS.md, The numbers).
 use Rattle.std.specs.Prelude.{ℕ}
 use Rattle.memory.specs.Outcome.{refusal_number}
 use Rattle.sheet.specs.declared.refusal.SheetRefusal.{SheetRefusal}
 use Rattle.sheet.specs.declared.refusal.SheetRefusal.TheVariants.{Host, LongList, ShortBuffer, UnknownKind, NonzeroBit, UnknownRegister, UnknownEdition, PastMemory, NoEnd, AfterEnd, WrongCount, Input}
 
--- the documents' numbers
+-- the numbers of docs/NUMBERS.md
 abbrev pub sheet_refusal_number : SheetRefusal → ℕ
-sheet_refusal_number (Host r) = refusal_number r
+sheet_refusal_number (Host refusal) = refusal_number refusal
 sheet_refusal_number LongList = 3
 sheet_refusal_number ShortBuffer = 4
 sheet_refusal_number UnknownKind = 20

@@ -7,20 +7,25 @@ use emulator::Core;
 use execute::Edition;
 use instructions::{GPR, Register, SPR};
 
+/// What a record says (docs/SHEETS.md, The records).
 #[derive(Clone, Copy, Debug, PartialEq, Eq)]
 pub enum Record {
+    /// The load address of the words that follow.
     Place(u16),
+    /// The word that goes to the load address.
     Word(u16),
-    // The register's number as the record has it, 0 to 11, and its value.
+    /// The register's number as the record has it, 0 to 11, and its value.
     Preset(u8, u16),
-    // Its number, 1 or 2.
+    /// The edition's number, 1 or 2.
     Edition(u16),
-    // The number of records before it.
+    /// The number of records before it.
     End(u32),
 }
 
-// The record that a word is, by its kind and bits 27..16 at once. Word records, of which a sheet has most, are told first and by a test of their own:
-// as an arm of the match they are compared after places, and loading takes a fifth longer. With ranges of the whole word it takes twice as long.
+/// The record that a word is, or the first of the tests 20, 21, 22 and 34 that it fails.
+// It goes by the kind and bits 27..16 at once. Word records, of which a sheet has most, are told
+// first and by a test of their own: as an arm of the match they are compared after places, and
+// loading takes a fifth longer. With ranges of the whole word it takes twice as long.
 #[tactic(auto, unfolding(crate::specs::Record::record_of))]
 pub fn record_of(w: u32) -> Result<Record, SheetRefusal>
     ensures { result ≡ record_of w }
@@ -45,7 +50,8 @@ pub fn record_of(w: u32) -> Result<Record, SheetRefusal>
     }
 }
 
-// The register of that number: 0 to 7 general, 8 ip, 9 rp, 10 sp, 11 ef.
+/// The value of the register of that number: 0 to 7 general, 8 ip, 9 rp, 10 sp, 11 ef. No caller
+/// has a number above 11.
 #[tactic(auto, unfolding(crate::specs::Record::register_of))]
 pub fn register(core: Core, number: u8) -> u16
     ensures { result ≡ register_of core number }
@@ -57,7 +63,7 @@ pub fn register(core: Core, number: u8) -> u16
     }
 }
 
-// The core with that register changed.
+/// The core with the register of that number changed, as `register` numbers them.
 #[tactic(auto, unfolding(crate::specs::Record::with_register))]
 pub fn with_register(core: Core, number: u8, value: u16) -> Core
     ensures { result ≡ with_register core number value }

@@ -17,8 +17,11 @@ fn put_records(bytes: &[u8], out: &mut [u32])
     }
 }
 
-// The records of a program's input, put into `out`, and how many they are. The longest input has 8,192. (It answers no slice of them, which would still
-// hold `out`: the clause says what all of it has then.)
+/// The records of a program's input (docs/SHEETS.md, What the program reads): they are put to the
+/// front of `out`, and the answer is how many they are, 8,192 at most. What stands in `out` past
+/// them stays. An input that is refused, by 27, leaves all of `out`.
+// It answers no slice of the records, which would still hold `out`: the clause says what all of it
+// has then.
 #[tactic(auto, using(crate::proofs::InputLaws::records_in_front), unfolding(crate::specs::Input::input_records))]
 pub fn records(bytes: &[u8], out: &mut [u32; 8192]) -> Result<usize, SheetRefusal>
     ensures { wrote result out.new ≡ input_of bytes.now out.old }

@@ -1,4 +1,7 @@
-// Word lists and rule sheets, read into memory and written from it.
+//! Word lists and rule sheets: `load` reads them into memory and a core, `write` writes a sheet
+//! from these, and `input` takes a sheet's records from the bytes of a program's input. `fields`
+//! tells what one record says, `refusal` why a call is refused. They make docs/SHEETS.md true: The
+//! records, What the writer gives and What the program reads.
 #![tactic(auto)]
 
 mod fields;

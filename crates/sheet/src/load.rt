@@ -8,12 +8,15 @@ use crate::refusal::SheetRefusal;
 use emulator::Core;
 use memory::check_length;
 
-// What a load comes to. A refused one hands back a fresh core and edition 1.
+/// What a load comes to, beside what it leaves in memory.
 #[derive(Clone, Copy)]
 pub struct Load {
+    /// The core to run: fresh but for what presets set, and fresh where the load is refused.
     pub core: Core,
-    // Its number. A plain word list is of edition 1.
+    /// The number of the edition to run it in, 1 or 2: 1 for a plain word list, for a sheet that
+    /// names none, and where the load is refused.
     pub edition: u16,
+    /// Whether it is loaded, or why it is refused.
     pub answer: Result<(), SheetRefusal>,
 }
 
@@ -32,7 +35,8 @@ fn put_words(words: &[u16], memory: &mut [u16]) -> Result<(), SheetRefusal>
     Ok(())
 }
 
-// Loads a plain word list.
+/// Loads a plain word list: its words go to memory from address 0 on, and zeros past them. A list
+/// that is refused, by 1 or 3, leaves memory as it is.
 pub fn load_words(words: &[u16], memory: &mut [u16]) -> Load
     ensures { left result.answer result.core result.edition memory.new ≡ load_words_of words.now memory.old }
 {
@@ -85,7 +89,8 @@ fn test_sheet(sheet: &[u32], size: usize) -> Result<(), SheetRefusal>
     test_records(sheet, size)
 }
 
-// What a sheet that passed its tests does. It cannot fail any more: its end record is the last, and every word has its place.
+// What a sheet that passed its tests does. It cannot fail any more: its end record is the last, and
+// every word has its place.
 #[tactic(auto, using(crate::proofs::SheetLaws::applying))]
 fn apply_sheet(sheet: &[u32], memory: &mut [u16]) -> (Core, u16)
     requires { Ok tt ≡ sheet_test sheet.now (length memory.old) }
@@ -121,7 +126,10 @@ fn apply_sheet(sheet: &[u32], memory: &mut [u16]) -> (Core, u16)
     (core, edition)
 }
 
-// Loads a rule sheet. A refused one changes nothing: only the second pass writes. (It isn't inlined, so that in `berth` the run's loop stands well:
+/// Loads a rule sheet (docs/SHEETS.md, The records): memory becomes zeros but for the words that
+/// the sheet places. A sheet that is refused leaves memory as it is: by 1, or record by record by
+/// the first of 20, 21, 22, 34, 23, 26, 25 and 24 (docs/NUMBERS.md, The order of the tests).
+// Only the second pass writes. (It isn't inlined, so that in `berth` the run's loop stands well:
 // docs/PERFORMANCE.md.)
 #[tactic(auto, unfolding(crate::specs::Load::load_sheet_of))]
 #[inline(never)]

@@ -5,36 +5,38 @@ ghost use Rattle.sheet.specs.declared.refusal.SheetRefusal.TheVariants.{Host};
 
 use memory::Refusal;
 
-// The test that refuses, by the documents' number.
+/// The test that refuses a load, a write or an input, with its number of docs/NUMBERS.md.
 #[derive(Clone, Copy, Debug, PartialEq, Eq)]
 pub enum SheetRefusal {
-    // 1 and 2.
+    /// A host test that runs make too. The calls of this crate make but one of them, 1: the length
+    /// of memory isn't 1 to 65,536.
     Host(Refusal),
-    // 3: the word list is longer than memory.
+    /// 3: the word list is longer than memory.
     LongList,
-    // 4: the buffer is too short for the sheet.
+    /// 4: the buffer is too short for the sheet.
     ShortBuffer,
-    // 20.
+    /// 20: a record of an unknown kind.
     UnknownKind,
-    // 21: a bit is set that must be 0.
+    /// 21: a bit is set that must be 0.
     NonzeroBit,
-    // 22: the register's number is above 11.
+    /// 22: the register's number is above 11.
     UnknownRegister,
-    // 34: an edition, of a record or of the host, is neither 1 nor 2.
+    /// 34: an edition, of a record or of the host, is neither 1 nor 2.
     UnknownEdition,
-    // 23: a word record at an address at or past memory's length.
+    /// 23: a word record at an address at or past memory's length.
     PastMemory,
-    // 24.
+    /// 24: the sheet has no end record.
     NoEnd,
-    // 25: records after the end.
+    /// 25: records after the end.
     AfterEnd,
-    // 26: the end's count of the records before it.
+    /// 26: the end's count isn't the number of the records before it.
     WrongCount,
-    // 27: the input isn't whole records, or is above 32,768 bytes.
+    /// 27: the input isn't whole records of four bytes, or is above 32,768 bytes.
     Input,
 }
 
 impl SheetRefusal {
+    /// The number of docs/NUMBERS.md.
     pub fn number(self) -> u8
         ensures { result ≡ sheet_refusal_number self }
     {

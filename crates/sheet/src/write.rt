@@ -66,8 +66,8 @@ fn put_presets(core: Core, sheet: &mut [u32])
     }
 }
 
-// The records of a word at an address after the word before it, put at `at`; answers the place past them. (Hosts lend the sheet, so it
-// is no `Vec`.)
+// The records of a word at an address after the word before it, put at `at`; answers the place past
+// them. (Hosts lend the sheet, so it is no `Vec`.)
 #[tactic(auto, using(crate::proofs::WriteLaws::one_word))]
 fn put_word(sheet: &mut [u32], at: usize, address: usize, before: u16, word: u16) -> usize
     requires { (at + length (records_at address before word) ≤ length sheet.old) × (address < 65536) }
@@ -101,7 +101,10 @@ fn put_stretches(memory: &[u16], sheet: &mut [u32])
     }
 }
 
-// Writes the sheet that loads this core and memory. A refused write changes nothing.
+/// Writes the sheet that loads this core, this edition and this memory (docs/SHEETS.md, What the
+/// writer gives) to the front of `sheet`, and answers how many records it has, the end included.
+/// What stands in `sheet` past them stays. A write that is refused, by the first of 1, 34 and 4,
+/// leaves all of `sheet`.
 #[tactic(auto, using(crate::proofs::WriteLaws::sheet_laws), unfolding(crate::specs::Write::write_sheet_of, memory::specs::Memory::refused_length))]
 pub fn write_sheet(
     core: Core,

@@ -90,7 +90,8 @@ left_out_any sheet size size' i p l q =
     let m = u.before in
     t.others m m (omega arith) (ap record_of (sym (get_or-remove_below sheet i 0 m (omega arith) l)) ∙ u.last))
 
--- read with another count, from a load address no further on: the end is reached, and its count is wrong
+-- read with another count, from a load address no further on: the end is reached, and its count is
+-- wrong
 Miscounted : ℕ → List ℕ → ℕ → ℕ → Type 0
 Miscounted size ws a n =
     (a' n' : ℕ) (c : Core) (ed : ℕ) (mem : List ℕ) → length mem ≡ size → a' ≤ a → (n' ≡ n → ⊥) → reading ws a' n' c ed mem ≡ Reading.fails WrongCount

@@ -156,7 +156,8 @@ stretches_few (v ∷ vs) a b =
     let both = length-append (records_at a b v) (stretches_from (a + 1) v vs) in
     omega arith
 
--- the words from address a on, and the end: the memory so far is pre, then zeros. Within a stretch the load address x is a.
+-- the words from address a on, and the end: the memory so far is pre, then zeros. Within a stretch
+-- the load address x is a.
 abbrev pub Reads : List ℕ → Type 0
 Reads vs =
     (pre : List ℕ) (x a n b total ed : ℕ) (c : Core) → length pre ≡ a → a + length vs ≤ 2 ^ 16 → Words vs → ((b ≡ 0 → ⊥) → x ≡ a)

@@ -123,7 +123,8 @@ module _ (counts : Record → ℕ) where
     unfolding read_from
     never_none q = failed q
 
-  -- so what is shown of a record that fits before what follows, and of the right end, holds of every sheet that passes
+  -- so what is shown of a record that fits before what follows, and of the right end, holds of
+  -- every sheet that passes
   pub by_records : (size : ℕ) (P : List ℕ → ℕ → ℕ → Type 0)
       → ((w : ℕ) (r : Record) (ws : List ℕ) (a n : ℕ) → record_of w ≡ Ok r → Fits r a size → P ws (address_after (Ok r) a) (n + counts r) → P (w ∷ ws) a n)
       → ((w a n : ℕ) → record_of w ≡ Ok (End n) → P (w ∷ []) a n)

@@ -12,7 +12,8 @@ use Rattle.sheet.proofs.WriteLaws.{at_zero, at_first, at_within, length_sheet}
 use Rattle.sheet_laws.specs.Size.{SheetFits}
 use Rattle.sheet_laws.proofs.ReadBack.{one_at_most}
 
--- twice the records of the stretches are at most three for each word, and one more if none stands before it in its stretch
+-- twice the records of the stretches are at most three for each word, and one more if none stands
+-- before it in its stretch
 abbrev Few : ℕ → ℕ → List ℕ → Type 0
 Few a b vs =
     (2 * length (stretches_from a b vs) ≤ 3 * length vs + 1)

@@ -1,4 +1,5 @@
--- Sheets of words are the same by both rules of counting, no other sheet passes by both, and a sheet of the old one needs its end redone alone.
+-- Sheets of words are the same by both rules of counting, no other sheet passes by both, and a
+-- sheet of the old one needs its end redone alone.
 use Prim.Native.Nat.{ℕ, zero, suc, ◌+◌, ◌^◌, ◌<◌, ◌≤◌}
 use mathlib.Core.Bool.{Bool, true, false}
 use mathlib.Core.List.{List, [], ◌∷◌, ◌++◌}
@@ -78,7 +79,8 @@ is_kind_2 w v e = by_test (eqb (kind w) 2) (λ t. eqb-true (kind w) 2 t)
     go false q false s t false x true e = cc
     go false q false s t false x false e = cc
 
--- what passes by the rule of words, after n of them, passes by the other after n' records, no fewer, only if they are as many and words follow
+-- what passes by the rule of words, after n of them, passes by the other after n' records, no
+-- fewer, only if they are as many and words follow
 OnlyWords : ℕ → List ℕ → ℕ → ℕ → Type 0
 OnlyWords size ws a n =
     (n' : ℕ) (c : Core) (ed : ℕ) (mem : List ℕ) → length mem ≡ size → n ≤ n' → Passed (read_from every_record ws a n' c ed mem) → (n ≡ n') × WordsFirst ws
@@ -119,7 +121,8 @@ redone_end e total t a n m c ed mem s q (Next.goes_on r seen f) =
     let nothing = rw (reads_on words_only a n c ed mem e r seen f []) at q in
     absurd (never_none words_only (address_after (Ok r) a) (n + words_only r) (core_after r c) (edition_after r ed) (memory_after r a mem) nothing)
 
--- the end e redone, where ws stand before it, n records of the old count and m of the new one before them
+-- the end e redone, where ws stand before it, n records of the old count and m of the new one
+-- before them
 redone : (ws : List ℕ) (e total : ℕ) → total < 2 ^ 28 → (a n m : ℕ) (c : Core) (ed : ℕ) (mem : List ℕ) → m + length ws ≡ total
     → Passed (read_from words_only (ws ++ e ∷ []) a n c ed mem)
     → read_from every_record (ws ++ end_record total ∷ []) a m c ed mem ≡ read_from words_only (ws ++ e ∷ []) a n c ed mem

@@ -1,4 +1,5 @@
--- What the count of all records is for (document 02, CR 6): a sheet that lost a record is refused.
+-- What the count of all records is for (docs/SHEETS.md, The records): a sheet that lost a record is
+-- refused.
 use Rattle.std.specs.Prelude.{ℕ, false, Result, Ok, Err, ◌+◌, ◌<◌, ◌≤◌, List, [], ◌∷◌, ◌≡◌, length, get_or}
 use Rattle.std.specs.List.{remove}
 use Rattle.execute.specs.Edition.{refused_edition}
@@ -40,14 +41,16 @@ unfoldable pub Rising : List ℕ → ℕ → Type 0
 Rising [] a = Unit {0}
 Rising (w ∷ ws) a = (a ≤ address_after (record_of w) a) × Rising ws (address_after (record_of w) a)
 
--- one record, whichever it is, left out of a sheet that passes: no memory takes what is left. It is refused by 24 if that was the end, and by 26
--- if it was another and the load address never goes back. (Where it does, a word may come to stand past memory, which is 23, before the end.)
+-- one record, whichever it is, left out of a sheet that passes: no memory takes what is left. It is
+-- refused by 24 if that was the end, and by 26 if it was another and the load address never goes
+-- back. (Where it does, a word may come to stand past memory, which is 23, before the end.)
 pub record LeftOut : Type 0 where
   pub any : (sheet : List ℕ) (size size' i : ℕ) → Passes sheet size → i < length sheet → Passes (remove sheet i) size' → ⊥
   pub end : (sheet : List ℕ) (size i : ℕ) → Passes sheet size → i + 1 ≡ length sheet → sheet_test (remove sheet i) size ≡ Err NoEnd
   pub other : (sheet : List ℕ) (size i : ℕ) → Passes sheet size → Rising sheet 0 → i + 1 < length sheet → sheet_test (remove sheet i) size ≡ Err WrongCount
 
--- of a sheet that the writer gave: `held` is whatever the memory held that is loaded into, and holds then
+-- of a sheet that the writer gave: `held` is whatever the memory held that is loaded into, and
+-- holds then
 abbrev pub LeftOutOfWritten : Type 0
 LeftOutOfWritten =
     (c : Core) (ed : ℕ) (mem held : List ℕ) → WholeCore c → refused_edition ed ≡ false → Words mem → 1 ≤ length mem → length mem ≤ 65536

@@ -1,6 +1,6 @@
--- The round trip (document 01, The rule sheet, and document 02, CR 5): loading the sheet that the writer gives, into memory of the same length,
--- restores core, edition and memory. That every value is a 16-bit word and that there are eight general registers is assumed here; the types of
--- the code say so.
+-- The round trip (docs/SHEETS.md, What the writer gives): loading the sheet that the writer gives,
+-- into memory of the same length, restores core, edition and memory. That every value is a 16-bit
+-- word and that there are eight general registers is assumed here; the types of the code say so.
 use Rattle.std.specs.Prelude.{ℕ, false, Ok, ◌^◌, ◌<◌, ◌≤◌, List, ◌≡◌, length, get_or}
 use Rattle.execute.specs.Edition.{refused_edition}
 use Rattle.emulator.specs.declared.core_record.Core.{Core}

@@ -1,4 +1,5 @@
--- The rule before document 02, CR 6, by which the end counted word records alone, beside that of today, by which it counts every record.
+-- The rule of old sheets (docs/SHEETS.md, Old sheets), by which the end counted word records alone,
+-- beside that of today, by which it counts every record.
 use Rattle.std.specs.Prelude.{ℕ, Ok, ◌+◌, ◌^◌, ◌<◌, List, [], ◌∷◌, ◌++◌, ◌≡◌, length, get_or, replicate}
 use Rattle.emulator.specs.Core.{new_core}
 use Rattle.sheet.specs.declared.fields.Record.{Record}
@@ -7,7 +8,7 @@ use Rattle.sheet.specs.Record.{kind}
 use Rattle.sheet.specs.Load.{Reading, read_from, sheet_reads, tested_of}
 use Rattle.sheet.specs.Write.{end_record}
 
--- what a record counted (document 01, The rule sheet)
+-- what a record counted: 1 for a word, 0 for every other
 abbrev pub words_only : Record → ℕ
 words_only (Place p) = 0
 words_only (Word v) = 1

@@ -1,6 +1,6 @@
 // What is loaded and written.
 
-// Sheets.
+/// Sheets, each with what it tries: those that are accepted, and those that are refused by a test.
 pub const SHEETS: [&[u32]; 60] = [
     // Accepted: the end alone
     &[0xF0000000],
@@ -115,7 +115,7 @@ pub const SHEETS: [&[u32]; 60] = [
     &[0x70000002, 0x70000003, 0xF0000002],
 ];
 
-// Memories of four words.
+/// Memories of four words, to be written.
 pub const MEMORIES: [[u16; 4]; 6] = [
     // no nonzero word
     [0, 0, 0, 0],
@@ -129,5 +129,5 @@ pub const MEMORIES: [[u16; 4]; 6] = [
     [5, 0, 6, 0],
 ];
 
-// The bytes of the program's example.
+/// The bytes of the program's example.
 pub const BYTES: [u8; 12] = [3, 0x10, 0, 0x20, 0xFF, 0xFF, 0, 0x20, 2, 0, 0, 0xF0];

@@ -3,11 +3,12 @@ use crate::cases::BYTES;
 use crate::show;
 use std::io;
 
+/// The bytes of the program's example, whole and cut, no bytes too.
 pub fn small(rt: &impl Print) -> io::Result<()> {
     each(rt, &BYTES, &[0, 3, 4, 5, 12], 0, 4)
 }
 
-// As many bytes as a program takes, and more.
+/// As many bytes as a program takes, and more.
 pub fn large(rt: &impl Print) -> io::Result<()> {
     each(rt, &[0xFE; 32772], &[32768, 32769, 32772], 8190, 8192)
 }

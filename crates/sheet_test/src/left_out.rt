@@ -5,7 +5,7 @@ use crate::{show, write};
 use emulator::Core;
 use std::io;
 
-// Of a sheet that is accepted.
+/// Leaves out each record in turn of a sheet, if it is accepted, and shows the answers.
 pub fn sheet(rt: &impl Print, records: &[u32]) -> io::Result<()> {
     if sheet::load_sheet(records, &mut [0; 4]).answer.is_err() {
         return Ok(());
@@ -14,7 +14,7 @@ pub fn sheet(rt: &impl Print, records: &[u32]) -> io::Result<()> {
     each(rt, records)
 }
 
-// Of sheets that were written, of random memories, in both editions.
+/// The same of sheets that were written, of random memories, in both editions.
 pub fn written(rt: &impl Print) -> io::Result<()> {
     let mut random = 1;
     for k in 0..16 {

@@ -4,7 +4,7 @@ use crate::{left_out, show};
 use sheet::Load;
 use std::io;
 
-// Each stored sheet, and without each of its records.
+/// Each stored sheet, and without each of its records.
 pub fn sheets(rt: &impl Print) -> io::Result<()> {
     for records in &SHEETS {
         load(rt, records)?;
@@ -13,7 +13,7 @@ pub fn sheets(rt: &impl Print) -> io::Result<()> {
     Ok(())
 }
 
-// 21: each bit that must be 0, of each kind of record.
+/// 21: each bit that must be 0, of each kind of record.
 pub fn bits(rt: &impl Print) -> io::Result<()> {
     for (record, from) in [
         (0x10000000, 16),
@@ -42,13 +42,14 @@ fn load(rt: &impl Print, records: &[u32]) -> io::Result<()> {
     show::line(rt)
 }
 
+/// What a load answers, the core and the edition.
 pub fn show_load(rt: &impl Print, l: Load) -> io::Result<()> {
     show::loaded(rt, l.answer)?;
     show::core(rt, l.core)?;
     show::edition(rt, l.edition)
 }
 
-// Host test 1, before any other.
+/// Host test 1, before any other.
 pub fn lengths(rt: &impl Print) -> io::Result<()> {
     for n in [0, 1, 65535, 65536, 65537] {
         at_length(rt, n)?;
@@ -77,7 +78,7 @@ fn load_each(rt: &impl Print, memory: &mut [u16]) -> io::Result<()> {
     show::sum(rt, memory)
 }
 
-// Word lists of up to one word more than memory has.
+/// Word lists of up to one word more than memory has.
 pub fn word_lists(rt: &impl Print) -> io::Result<()> {
     for n in [0, 2, 4, 5] {
         word_list(rt, n)?;

@@ -1,5 +1,6 @@
-// Loads and writes sheets and word lists of every kind and prints a line for each: what was given, the answer, what it left. A sheet that is accepted has
-// another line, of the answers to it without each of its records.
+//! Loads and writes sheets and word lists of every kind (docs/SHEETS.md, The records, and What the
+//! writer gives) and prints a line for each: what was given, the answer, what it left. A sheet that
+//! is accepted has another line, of the answers to it without each of its records.
 #![tactic(auto)]
 
 mod cases;

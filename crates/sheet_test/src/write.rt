@@ -5,7 +5,7 @@ use crate::show;
 use emulator::Core;
 use std::io;
 
-// A core whose registers all differ.
+/// A core whose registers all differ.
 pub fn core() -> Core {
     Core {
         gprs: [1, 2, 3, 4, 5, 6, 7, 0xFFFF],
@@ -35,7 +35,7 @@ fn write(
     Ok(())
 }
 
-// Each stored memory, with the records, and the buffer past them.
+/// Each stored memory, with the records, and the buffer past them.
 pub fn small(rt: &impl Print, edition: u16) -> io::Result<()> {
     for memory in &MEMORIES {
         write_small(rt, edition, memory)?;
@@ -53,7 +53,8 @@ fn write_small(rt: &impl Print, edition: u16, memory: &[u16]) -> io::Result<()> 
     show::line(rt)
 }
 
-// Buffers just long enough, and one too short, in both editions, for a memory of one word or of none.
+/// Buffers just long enough, and one too short, in both editions, for a memory of one word or of
+/// none.
 pub fn room(rt: &impl Print) -> io::Result<()> {
     at_room(rt, 1, &[0], 13)?;
     at_room(rt, 1, &[0], 12)?;
@@ -68,7 +69,7 @@ pub fn room(rt: &impl Print) -> io::Result<()> {
     at_room(rt, 2, &[3], 0)
 }
 
-// Editions that there aren't, with room enough, with none, and for no memory.
+/// Editions that there aren't, with room enough, with none, and for no memory.
 pub fn editions(rt: &impl Print) -> io::Result<()> {
     for edition in [0, 3, 65535] {
         at_room(rt, edition, &[3], 16)?;
@@ -91,7 +92,7 @@ fn at_room(rt: &impl Print, edition: u16, memory: &[u16], n: usize) -> io::Resul
     show::line(rt)
 }
 
-// Memories of 65,536 words, all zero and without a zero, and one of a word more.
+/// Memories of 65,536 words, all zero and without a zero, and one of a word more.
 pub fn large(rt: &impl Print) -> io::Result<()> {
     at_size(rt, 1, &[0; 65536], 65550)?;
     at_size(rt, 1, &[1; 65536], 65550)?;

@@ -1,4 +1,5 @@
--- What the run leaves is what its definition gives, of which the laws of runs speak. Core and memory have 16-bit words by their types.
+-- What the run leaves is what its definition gives, of which the laws of runs speak. Core and
+-- memory have 16-bit words by their types.
 use Rattle.std.proofs.Common.{rules, refl, arith}
 use Rattle.memory.specs.Memory.{lent}
 use Rattle.nilguseg.specs.Host.{core_from}
