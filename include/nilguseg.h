@@ -37,14 +37,14 @@ typedef struct nilguseg_core {
     uint16_t ef; /* bit 0 is halt, bit 1 is condition */
 } nilguseg_core;
 
-/* How a step or a run came out: one numbering for both. Numbers above 5 are free for further
- * ends. */
+/* How a step, a run or a replay came out: one numbering for all. Numbers above 5 are free for
+ * further ends. A load, a write and a comparison answer otherwise. */
 enum {
     NILGUSEG_STEPPED = 0, /* of a step: an instruction was executed */
     NILGUSEG_HALTED = 1,  /* the core was halted already, or the run halted it */
     NILGUSEG_LIMIT = 2,   /* of a run: its limit of steps was reached */
     NILGUSEG_FAULT = 3,   /* the words caused a stop */
-    NILGUSEG_REFUSED = 4, /* lengths, rights or the edition do not fit; nothing was changed */
+    NILGUSEG_REFUSED = 4, /* lengths, rights or the edition do not fit: nothing was run */
     NILGUSEG_LOG = 5      /* of a logged run or a replay: the log ended it */
 };
 
@@ -210,8 +210,8 @@ uint64_t nilguseg_replay_guarded(nilguseg_core *core, size_t size, const uint8_t
                                  size_t rights_len, uint16_t edition, uint32_t limit,
                                  const uint32_t *log, size_t log_len);
 
-/* Zeroes memory, copies the words to its beginning, makes the core a fresh one and *edition 1. The
- * answer is 0.
+/* Loads a plain word list (docs/MACHINE.md, Word lists and their order): zeroes memory, copies the
+ * words to its beginning, makes the core a fresh one and *edition 1. The answer is 0.
  * Refused, with memory unchanged, the core fresh and *edition 1; the answer is the number:
  *   1   memory_len is not 1 to 65,536
  *   3   words_len is above memory_len */
@@ -228,7 +228,9 @@ uint32_t nilguseg_load_words(nilguseg_core *core, uint16_t *edition, const uint1
  *   20  unknown kind                  21  a bit set that must be 0
  *   22  register above 11             34  edition neither 1 nor 2
  *   23  a word at or past memory_len  26  wrong count at the end record
- *   25  records after the end record  24  no end record */
+ *   25  records after the end record
+ *   and where all of them pass:
+ *   24  no end record */
 uint32_t nilguseg_load_sheet(nilguseg_core *core, uint16_t *edition, const uint32_t *sheet,
                              size_t sheet_len, uint16_t *memory, size_t memory_len);
 

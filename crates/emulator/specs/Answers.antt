@@ -1,4 +1,4 @@
--- Need not be believed: nilguseg_c::nilguseg_step and nilguseg_run promise the numbers without it.
+-- Need not be believed: nilguseg_step, nilguseg_run_logged and nilguseg_replay promise without it.
 -- What each answer of the code says of how a step and a run come out.
 use Rattle.std.specs.Prelude.{ℕ, ◌==◌, if◌then◌else◌, Result, Ok, Err}
 use Rattle.memory.specs.Outcome.{Outcome, stepped, halted, limit, fault, refused, ended, stop_of, refusal_number, log_end_number}

@@ -55,7 +55,7 @@ pub struct Step {
 /// A run: the core that it leaves, the steps counted, and its end.
 #[derive(Clone, Copy, Debug, PartialEq, Eq)]
 pub struct Run {
-    /// The core after it; as it was given where the run is refused.
+    /// The core after it; as it was given where the run is refused, or a replay ends by 31.
     pub core: Core,
     /// The steps counted, at most the limit; one that faults isn't.
     pub steps: u32,
@@ -68,7 +68,8 @@ pub struct Run {
 pub struct LoggedRun {
     /// The run.
     pub run: Run,
-    /// How many words of the buffer are its log, from the front: two for each read.
+    /// How many words of the buffer are its log, from the front: two for each read; 0 where the run
+    /// is refused.
     pub logged: usize,
 }
 
@@ -261,8 +262,8 @@ impl Core {
     }
 
     /// The run with a log of its reads, which is written to the front of the lent one
-    /// (docs/MACHINE.md, Logs and replays). It also ends where fewer than four words are free. The
-    /// words past the log keep their value, and a refused run changes nothing.
+    /// (docs/MACHINE.md, Logs and replays). It also ends where fewer than four words are free
+    /// before a step. The words past the log keep their value, and a refused run changes nothing.
     #[tactic(auto, using(crate::proofs::Laws::accepted))]
     pub fn run_logged(
         self,

@@ -21,7 +21,7 @@ pub enum End {
     Fault(Stop),
     /// A host test refused the call, and nothing was run.
     Refused(Refusal),
-    /// The log ended the run: it is full, or a replay's reads aren't its words.
+    /// The log ended the run: its buffer is full, or a replay's reads aren't those of its log.
     Log(LogEnd),
 }
 

@@ -1,4 +1,4 @@
-//! What an instruction asks for, in plain numbers: at most one change of the registers and one
+//! What an instruction asks for, in plain numbers: what becomes of the registers, and at most one
 //! memory access, or a stop (docs/MACHINE.md, Instructions). The registers are given one by one, as
 //! the core record stands above, in the emulator.
 ghost use Rattle.std.specs.Prelude.{◌≡◌};

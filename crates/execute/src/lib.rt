@@ -1,6 +1,6 @@
 //! What one instruction does, in each of two editions, on plain numbers: no core record and no
-//! memory. `execute` (effect) is the table of effects, specs/Execute.antt; word and flags have its
-//! arithmetic and the bits of ef (docs/MACHINE.md, Instructions and Editions).
+//! memory. `execute` (in `effect`) is the table of effects, specs/Execute.antt; `word` and `flags`
+//! have its arithmetic and the bits of ef (docs/MACHINE.md, Instructions and Editions).
 #![tactic(auto)]
 
 mod edition;

@@ -7,7 +7,7 @@ use Rattle.execute.specs.declared.edition.Edition.TheVariants.{First, Second}
 use Rattle.execute.specs.declared.effect.Effect.{Effect}
 use Rattle.execute.specs.declared.effect.Effect.TheVariants.{Amount, Negation}
 
--- an effect that is neither stop 13 nor stop 14: those stand where the Rust's arithmetic overflows
+-- an effect that is neither stop 13 nor stop 14
 pub record NoOverflow (e : Effect) : Type 0 where
   pub amount : (a : ℕ) → e ≡ Amount a → ⊥
   pub negation : (v : ℕ) → e ≡ Negation v → ⊥

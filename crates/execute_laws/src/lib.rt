@@ -1,5 +1,5 @@
 //! Theorems about the definitions of `execute`. Each is the contract of a function with an empty
-//! body: specs/ states it, proofs/ proves it. Words stay words (docs/MACHINE.md, Instructions), and
+//! body: specs/ states it, proofs/ proves it. Words stay words (docs/MACHINE.md, Registers), and
 //! the editions differ in two stops alone (docs/MACHINE.md, Editions).
 #![tactic(auto)]
 

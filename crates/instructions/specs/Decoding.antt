@@ -1,7 +1,8 @@
 -- Need not be believed: encoding_laws::decoding_inverts_encoding ties it to the table of words.
 -- The instruction that a word stands for: its opcode by the upper byte and then the lower byte, and
 -- the operands at their places. `decode_of` is proved to be the inverse of the table `encode_of`.
--- Only the number 10, `undecodable`, is no part of that: it is one of docs/NUMBERS.md.
+-- Two lines are to be believed: `undecodable`, the number 10 (docs/NUMBERS.md), and
+-- `no_instruction`, by which a word that stands for none is handed back.
 use Rattle.std.specs.Prelude.{ℕ, ◌/◌, ◌%◌, Result, Ok, Err}
 use Rattle.instructions.specs.Reg.{gpr_at, spr_at, dr_at}
 use Rattle.opcode.specs.Opcode.{opcode_of}

@@ -66,7 +66,7 @@ pub enum GeneralPurposeRegister {
     R7,
 }
 
-/// The short name by which operands are typed.
+/// Short for it, as operands are written.
 pub type GPR = GeneralPurposeRegister;
 
 /// A special register, of four.
@@ -76,13 +76,14 @@ pub enum SpecialPurposeRegister {
     IP,
     /// The address to which `ret` goes, and which `call` sets. Number 1.
     RP,
-    /// The address of the stack's last word: `push` lowers it, `pop` raises it. Number 2.
+    /// The top of the stack, the address of the word pushed last: `push` lowers it, `pop` raises
+    /// it. Number 2.
     SP,
     /// The flags: bit 0 is halt, bit 1 is condition. Number 3.
     EF,
 }
 
-/// The short name by which operands are typed.
+/// Short for it, as operands are written.
 pub type SPR = SpecialPurposeRegister;
 
 /// A decimal register, of four. Words name them, but a core has none: an instruction that names one
@@ -99,7 +100,7 @@ pub enum DecimalRegister {
     D3,
 }
 
-/// The short name by which operands are typed.
+/// Short for it, as operands are written.
 pub type DR = DecimalRegister;
 
 impl GeneralPurposeRegister {

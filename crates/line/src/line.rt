@@ -6,7 +6,7 @@ ghost use Rattle.line.specs.Line.{field, fields};
 
 use arrayvec::ArrayVec;
 
-/// A text of at most 128 bytes, which no line is longer than.
+/// The text of a line, which has at most 128 bytes.
 // (`write!` into one can fail, and no clause says that it doesn't.)
 pub type Line = ArrayVec<u8, 128>;
 

@@ -32,7 +32,7 @@ pub data Reply : Type 0 where
   word : ℕ → ℕ → Reply
   stopped : Stop → Reply
 
--- and by the reply to an access
+-- the log words of an access, by its reply
 abbrev pub reply_log : Reply → List ℕ
 reply_log Reply.done = []
 reply_log (Reply.word address value) = entry_of Purpose.Read address value

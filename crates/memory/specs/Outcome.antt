@@ -18,7 +18,7 @@ pub data Outcome : Type 0 where
   refused : ℕ → Outcome
   ended : ℕ → Outcome
 
--- the stops of the rule words
+-- the stops, which a word of the rule causes
 abbrev pub stop_of : Stop → Outcome
 stop_of (stops.Undecodable word) = fault undecodable word
 stop_of (stops.OutOfRange address) = fault 11 address

@@ -1,4 +1,4 @@
--- Need not be believed: emulator::proofs::Whole::turns_logged ties it to the log of a run.
+-- Need not be believed: Core::run_logged, proved by it, promises its definition without it.
 -- What the parts of a logged run promise. Nothing here says what an access or a log is.
 use Rattle.std.specs.Prelude.{ℕ, ◌+◌, ◌≡◌, ◌<◌, ◌≤◌, List, [], length, nat_lt, if◌then◌else◌, refl}
 use Rattle.std.proofs.Common.{arith, add-zero}

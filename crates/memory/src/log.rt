@@ -3,7 +3,7 @@ ghost use Rattle.std.specs.Prelude.{◌≡◌, ◌≤◌, length};
 ghost use Rattle.memory.specs.Log.{address_word, written};
 ghost use Rattle.memory.specs.Parts.{pushed};
 
-/// What a read is made for. It goes beside the address, as a write has an address alone.
+/// What a read is made for; a write is for nothing but its word.
 #[derive(Clone, Copy, Debug, PartialEq, Eq)]
 pub enum Purpose {
     /// The word is to be executed.

@@ -10,7 +10,7 @@ ghost use Rattle.memory.specs.Outcome.{refusal_number, log_end_number};
 pub enum Refusal {
     /// The length of memory isn't 1 to 65,536.
     MemoryLength = 1,
-    /// That of the marks isn't memory's.
+    /// There are not as many marks as memory has words.
     MarksLength = 2,
     /// The rights aren't 256 bytes of at most 7.
     Rights = 32,
@@ -30,9 +30,9 @@ impl Refusal {
 /// How a run ends by its log, with its number.
 #[derive(Clone, Copy, Debug, PartialEq, Eq)]
 pub enum LogEnd {
-    /// Fewer than four of its words are free.
+    /// Fewer than four words of its buffer were free before a step.
     Full = 30,
-    /// A replay's reads aren't its words.
+    /// A replay's reads aren't those of its log, or log words are left.
     Mismatch = 31,
 }
 

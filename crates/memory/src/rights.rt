@@ -6,7 +6,7 @@ ghost use Rattle.memory.specs.Rights.{bytes_of, has_right, right_of, tested_byte
 use crate::log::Purpose;
 use crate::refusal::Refusal;
 
-/// The rights bytes of a run: none, where every page has every right.
+/// The rights bytes of a run, one for each page from 0 on; with `None` every page has every right.
 pub type Rights<'a> = Option<&'a [u8; 256]>;
 
 /// A right, with its value in a page's byte, which is the sum of those that the page has.

@@ -15,7 +15,7 @@ use crate::stop::Stop;
 /// Where a run reads and writes. Each access comes to what `store` of the definitions says, and
 /// each read is noted by its log words.
 pub trait Store {
-    /// What the definitions take it for, their medium.
+    /// The medium by which the definitions speak of it.
     ghost Seen: { Type 0 };
 
     /// The medium that it is now.
@@ -24,7 +24,7 @@ pub trait Store {
     /// The accesses to the medium, with such rights.
     ghost store: { Option (List ℕ) → Store Seen };
 
-    /// `Noted start now log`: since `start`, the log's words were logged.
+    /// `Noted start now log`: `start` has become `now`, and `log` was logged meanwhile.
     ghost Noted: { Self → Self → List ℕ → Type 0 };
 
     /// Whether the words logged since a start end the run.

@@ -9,20 +9,20 @@ abbrev pub how_of : Outcome → ℕ
 how_of stepped = 0
 how_of halted = 1
 how_of limit = 2
-how_of (fault n v) = 3
-how_of (refused n) = 4
-how_of (ended n) = 5
+how_of (fault number value) = 3
+how_of (refused number) = 4
+how_of (ended number) = 5
 
 -- the answer of a step that is refused by a number, and how every step's answer says whether it is
 abbrev pub refused_step : ℕ → ℕ
-refused_step n = outcome_number (refused n)
+refused_step number = outcome_number (refused number)
 
 abbrev pub IsRefusedStep : ℕ → Type 0
 IsRefusedStep answer = answer / 2 ^ 24 ≡ 4
 
 -- the same of a run or a replay, with 0 steps
 abbrev pub refused_run : ℕ → ℕ
-refused_run n = outcome_number (refused n) * 2 ^ 32
+refused_run number = outcome_number (refused number) * 2 ^ 32
 
 abbrev pub IsRefusedRun : ℕ → Type 0
 IsRefusedRun answer = answer / 2 ^ 56 ≡ 4

@@ -1,7 +1,8 @@
 //! What hosts' calls share: the core record as twelve words, the numbers that a call answers, and
 //! how a step, a run and a load are put back. The exports of `nilguseg_c`, `nilguseg_guarded`,
 //! `nilguseg_log` and `nilguseg_replay` stand on it. specs/Host.antt is the layout that
-//! include/nilguseg.h tells a host; the numbers in it are those of docs/NUMBERS.md.
+//! include/nilguseg.h tells a host; the numbers of faults, refusals and ends by the log in it are
+//! those of docs/NUMBERS.md.
 #![tactic(auto)]
 
 ghost use Rattle.std.specs.Prelude.{◌≡◌, ◌/◌, ◌^◌, [], ◌∷◌};

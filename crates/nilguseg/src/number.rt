@@ -37,7 +37,7 @@ pub fn end_number(end: End) -> u32
     }
 }
 
-/// The number of a step: 0 if it stepped. One that stops has the number of a run that ends so.
+/// The number of a step: 0 if it stepped. Any other has the number of a run that ends so.
 pub fn step_number(answer: Answer) -> u32
     ensures number { result ≡ outcome_number (answer_of answer) }
     // The upper bits say how the step came out.

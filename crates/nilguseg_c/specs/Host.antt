@@ -1,4 +1,5 @@
--- What relates the answers of two calls.
+-- Need not be believed: nilguseg_compare's clause `order` leaves it one value for each of 0, 1, 2.
+-- The answer of nilguseg_compare once the lists have changed places.
 use Rattle.std.specs.Prelude.{ℕ, ◌==◌, if◌then◌else◌}
 
 -- the number of a comparison once the lists have changed places: 1, the first comes first, becomes

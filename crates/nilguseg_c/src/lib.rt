@@ -80,11 +80,13 @@ pub extern "C" fn nilguseg_run(
     put_run(core_of(*core).run(memory, marks, edition, limit), core)
 }
 
-/// Loads a plain word list: memory becomes its words, and 0 past them.
+/// Loads a plain word list (docs/MACHINE.md, Word lists and their order): memory becomes its words,
+/// and 0 past them.
 ///
 /// Lent for reading: the words. Lent for writing: the core, which becomes a fresh one, the edition,
 /// which becomes 1, and memory. The answer is 0, or the number of the refusal, the first of 1 and
-/// 3; then memory keeps its words, and the host still gets the fresh core and edition 1.
+/// 3. Where it is refused, memory keeps its words; the host gets the fresh core and edition 1 all
+/// the same.
 #[unsafe(no_mangle)]
 pub extern "C" fn nilguseg_load_words(
     core: &mut [u16; 12],
@@ -107,9 +109,9 @@ pub extern "C" fn nilguseg_load_words(
 /// Loads a rule sheet (docs/SHEETS.md, The records).
 ///
 /// Lent for reading: the sheet's 32-bit records. Lent for writing: the core, the edition and
-/// memory, which become what the sheet says. The answer is 0, or the number of the refusal: 1, or,
-/// record by record, the first of 20, 21, 22, 34, 23, 26, 25 and 24. Then memory keeps its words,
-/// and the host gets a fresh core and edition 1.
+/// memory, which become what the sheet says. The answer is 0, or the number of the refusal: 1;
+/// record by record the first of 20, 21, 22, 34, 23, 26 and 25; or 24, after the last record. Where
+/// it is refused, memory keeps its words, and the host gets a fresh core and edition 1.
 #[unsafe(no_mangle)]
 pub extern "C" fn nilguseg_load_sheet(
     core: &mut [u16; 12],
@@ -163,7 +165,7 @@ pub extern "C" fn nilguseg_write_sheet(
 /// Which of two word lists comes first (docs/MACHINE.md, Word lists and their order).
 ///
 /// Lent for reading: the two lists, of any lengths; they may overlap. The answer is 0 for equal
-/// lists, 1 where the first comes first, 2 where the second does. No test refuses it.
+/// lists, 1 where the first comes first, 2 where the second does. The call is never refused.
 #[unsafe(no_mangle)]
 pub extern "C" fn nilguseg_compare(first: &[u16], second: &[u16]) -> u32
     ensures order { result ≡ order_number (order_of first.now second.now) }
@@ -178,7 +180,7 @@ pub extern "C" fn nilguseg_compare(first: &[u16], second: &[u16]) -> u32
 /// Lent for reading: the two lists, of any lengths. Lent for writing: `from`, which becomes the
 /// place from which on the part is, counted in words from 0: in the second list for the answer 2,
 /// else in the first. It is that list's length where the part is empty. The answer is that of
-/// `nilguseg_compare`. No test refuses it.
+/// `nilguseg_compare`. The call is never refused.
 #[unsafe(no_mangle)]
 pub extern "C" fn nilguseg_earlier(first: &[u16], second: &[u16], from: &mut usize) -> u32
     ensures { call result ((from.new ∷ []) ∷ []) ≡ part_call (part_of first.now second.now) }

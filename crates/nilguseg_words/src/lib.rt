@@ -13,8 +13,8 @@ use numbers::{instruction, pack};
 
 /// What a word decodes to: the kind in bits 23..16, as the header numbers the kinds, the first
 /// operand in bits 15..8 and the second in bits 7..0, 0 where there is none. A word that stands for
-/// no instruction has 10 (docs/NUMBERS.md) in bits 31..24 and itself in bits 15..0. No test refuses
-/// it.
+/// no instruction has 10 (docs/NUMBERS.md) in bits 31..24 and itself in bits 15..0. The call is
+/// never refused.
 #[unsafe(no_mangle)]
 pub extern "C" fn nilguseg_decode(word: u16) -> u32
     ensures { result ≡ decoded_number (decode_of word) }

@@ -21,7 +21,7 @@ pub record Numbers : Type 0 where
   pub second : ℕ
 
 abbrev pub numbers : ℕ → ℕ → ℕ → Numbers
-numbers k a b = record { kind = k; first = a; second = b }
+numbers kind first second = record { kind = kind; first = first; second = second }
 
 abbrev pub numbers_of : Instruction → Numbers
 -- Core
@@ -78,26 +78,26 @@ numbers_of Ret = numbers 42 0 0
 
 -- the kind in bits 23..16, the first operand in bits 15..8 and the second in bits 7..0
 abbrev pub packed : Numbers → ℕ
-packed n = n.kind * 2 ^ 16 + n.first * 2 ^ 8 + n.second
+packed given = given.kind * 2 ^ 16 + given.first * 2 ^ 8 + given.second
 
 -- what a word decodes to: the instruction, or the stop in bits 31..24 with its value
 abbrev pub decoded_number : Result Instruction Undecodable → ℕ
-decoded_number (Ok i) = packed (numbers_of i)
-decoded_number (Err e) = undecodable * 2 ^ 24 + e.word
+decoded_number (Ok instruction) = packed (numbers_of instruction)
+decoded_number (Err error) = undecodable * 2 ^ 24 + error.word
 
 -- what a number stands for as an operand, if it stands for anything: a register of each sort, and a
 -- byte for itself
 abbrev pub gpr : ℕ → Option GeneralPurposeRegister
-gpr n = register_of 8 gpr_at n
+gpr number = register_of 8 gpr_at number
 
 abbrev pub spr : ℕ → Option SpecialPurposeRegister
-spr n = register_of 4 spr_at n
+spr number = register_of 4 spr_at number
 
 abbrev pub dr : ℕ → Option DecimalRegister
-dr n = register_of 4 dr_at n
+dr number = register_of 4 dr_at number
 
 abbrev pub byte : ℕ → Option ℕ
-byte n = Some n
+byte number = Some number
 
 -- a kind: the instruction that the numbers of its operands make, if they stand for any; a number
 -- that it has no operand for is not looked at
@@ -105,13 +105,14 @@ abbrev pub Kind : Type 0
 Kind = ℕ → ℕ → Option Instruction
 
 abbrev pub alone : Instruction → Kind
-alone i a b = Some i
+alone instruction first second = Some instruction
 
 abbrev pub one : {A : Type 0} → (ℕ → Option A) → (A → Instruction) → Kind
-one x f a b = option_map f (x a)
+one operand make first second = option_map make (operand first)
 
 abbrev pub two : {A B : Type 0} → (ℕ → Option A) → (ℕ → Option B) → (A → B → Instruction) → Kind
-two x y f a b = option_map (λ p. f p.0 p.1) (option_zip (x a) (y b))
+two left right make first second =
+    option_map (λ both. make both.0 both.1) (option_zip (left first) (right second))
 
 abbrev pub kinds : List Kind
 kinds =
@@ -170,17 +171,20 @@ kinds =
 
 -- the instruction of a kind's number and two operands'; no kind has a number above 42
 abbrev pub instruction_of : ℕ → Kind
-instruction_of k = get_or kinds k (λ a b. None)
+instruction_of kind = get_or kinds kind (λ first second. None)
 
 -- the word of the instruction, or 0x10000 where there is none
 abbrev pub word_of : Option Instruction → ℕ
-word_of (Some i) = encode_of i
+word_of (Some instruction) = encode_of instruction
 word_of None = 0x10000
 
 -- an operand's number is a byte, also where the kind has no such operand; of another the answer is
 -- 0x10000 too
 abbrev pub encoded_number : ℕ → ℕ → ℕ → ℕ
-encoded_number k a b = if ltb a 256 then (if ltb b 256 then word_of (instruction_of k a b) else 0x10000) else 0x10000
+encoded_number kind first second =
+    if ltb first 256
+    then (if ltb second 256 then word_of (instruction_of kind first second) else 0x10000)
+    else 0x10000
 
 -- what decoding says of an instruction, encoding takes: its numbers, which are bytes as in every
 -- value of the code, encode to its word

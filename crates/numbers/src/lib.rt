@@ -113,7 +113,7 @@ pub fn pack(ins: Instruction) -> u32
 }
 
 /// The instruction of these numbers, or none where the kind is above 42 or an operand that names a
-/// register is no number of one. An operand that the kind doesn't have is not looked at.
+/// register has no register's number. An operand that the kind doesn't have is not looked at.
 pub fn instruction(kind: u8, first: u8, second: u8) -> Option<Instruction>
     ensures { result ≡ instruction_of kind first second }
 {
@@ -276,7 +276,7 @@ pub fn instruction(kind: u8, first: u8, second: u8) -> Option<Instruction>
     Some(ins)
 }
 
-/// The numbers that a decoded instruction is given encode to its word.
+/// The numbers of an instruction encode to its word.
 #[tactic(auto, using(crate::proofs::Laws::numbers_encode))]
 pub fn numbers_name_instructions()
     ensures numbers { NumbersEncode }

@@ -8,7 +8,8 @@ ghost use Rattle.opcode.specs.Opcode.{single_of, general_of, general_or_decimal_
 
 /// The kind of an instruction, or that a word is undecodable. One flat enum, so that it takes one
 /// byte. Each kind is listed with its base word, to which its operands add (docs/MACHINE.md,
-/// Instructions): a pair has its first operand in bits 6..4 and its second from bit 0 on.
+/// Instructions): a pair has one register in bits 6..4 and one from bit 0 on; the table's row says
+/// which operand each is.
 #[derive(Clone, Copy, Debug, PartialEq, Eq)]
 pub enum InstructionOpcode {
     /// No kind: the word stands for no instruction.
@@ -371,8 +372,8 @@ fn calls(lo: u8) -> InstructionOpcode
     }
 }
 
-// The next three stay apart: in one function with the bits as a const parameter, most calls needed
-// laws of the masks, in more text.
+// The next four stay apart: one function with the bits as a const parameter would need laws of the
+// masks at most calls, in more text.
 
 // A general register in bits 2..0, and nothing else: 00000qqq.
 fn single(lo: u8, opcode: InstructionOpcode) -> InstructionOpcode

@@ -1,6 +1,6 @@
-//! Which of two word lists comes first, and the part of it from the first place where they differ
-//! on (docs/MACHINE.md, Word lists and their order). specs/ says what the order is; that it is one,
-//! total and transitive, is shown in `order_laws`.
+//! Which of two word lists comes first, and the rest of the earlier one from the first place where
+//! they differ (docs/MACHINE.md, Word lists and their order). specs/ says what the order is; that
+//! it is one, total and transitive, is shown in `order_laws`.
 #![tactic(auto)]
 
 // Both lists go side by side, as in std's `cmp`; a struct of two would be taken apart in each

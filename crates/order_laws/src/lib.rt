@@ -1,6 +1,6 @@
 //! Theorems about the definitions of `order`. Each is the contract of a function with an empty
-//! body: specs/ states it, proofs/ proves it. They say that docs/MACHINE.md, Word lists and their
-//! order, tells an order, and which lists are equal by it.
+//! body: specs/ states it, proofs/ proves it. They show that the order of docs/MACHINE.md, Word
+//! lists and their order, is one, and which lists are equal by it.
 #![tactic(auto)]
 
 ghost use Rattle.order_laws.specs.Claims.{Equality, FirstDifference, LoadAlike, Total, Transitive};

@@ -1,4 +1,4 @@
--- Need not be believed: replay::proofs::Replays::turns_seen and turns_off tie it to a replay.
+-- Need not be believed: replay, proved by it, promises its definition without it.
 -- What the log in memory's place promises. Nothing here says what a replay is.
 use Rattle.std.specs.Prelude.{ℕ, Bool, true, false, ◌&&◌, List, [], ◌∷◌, ◌≡◌, refl, eqb, if◌then◌else◌, ◌%◌}
 use Rattle.memory.specs.Log.{entry_of}

@@ -14,7 +14,8 @@ fn is_entry(purpose: Purpose, address: u16, named: u32, value: u32) -> bool
 }
 
 /// A log in memory's place. A read that may be made takes its next two words, and gives the word as
-/// logged; a write takes none.
+/// logged; a write takes none. Where fewer than two are left it takes them and gives 0, which is no
+/// match.
 #[derive(Drop)]
 pub struct LogTape<'a> {
     /// The length of the memory that was run on.

@@ -1,4 +1,5 @@
-// One recorded case: what a step or a run over 32 words starts with, and what the Rust made of it.
+// One recorded case: what a step or a run over 32 words starts with, and what the published Rust
+// made of it.
 ghost use Rattle.std.specs.Prelude.{◌≡◌, ◌≤◌, ◌+◌};
 ghost use Rattle.memory.specs.Outcome.{stop_of, fault};
 
@@ -195,8 +196,8 @@ impl Case {
         }
     }
 
-    /// Whether this machine answers as the Rust did: the step or the run, and of a run also the one
-    /// with a log and its replay.
+    /// Whether this machine answers as the published Rust did: the step or the run, and of a run
+    /// also the one with a log and its replay.
     pub fn is_met(&self) -> bool {
         match self.asked {
             Asked::Step => self.steps_so(),
@@ -221,7 +222,7 @@ impl Case {
         self.is_run(run) && memory == self.end.memory
     }
 
-    // The same run with a log, and its replay: both end as the Rust did.
+    // The same run with a log, and its replay: both end as the published Rust did.
     fn is_seen_again(&self, limit: u32) -> bool {
         let mut memory = self.start.memory;
         let mut log = [0; LOG];

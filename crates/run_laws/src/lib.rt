@@ -11,7 +11,7 @@ ghost use Rattle.run_laws.specs.Logs.{FourWordsSuffice, FullIsPlain, LogSize, Lo
 ghost use Rattle.run_laws.specs.Rights.{Isolation, SevensArePlain};
 ghost use Rattle.run_laws.specs.Rows.{Rows};
 
-/// Office and quay agree: two accepted runs of the same core, limit, length, rights and edition,
+/// Two accepted runs of the same core, limit, length, rights and edition,
 /// whose memories start equal wherever the first run's final mark includes 1, have the same end,
 /// steps, registers, marks, written words and log, if both log with equal room, or neither logs, or
 /// neither ends because its log is full.

@@ -1,5 +1,6 @@
--- Loading a plain word list or a rule sheet (docs/SHEETS.md, The records), with the tests by which
--- a load is refused (docs/NUMBERS.md, The order of the tests).
+-- Loading a plain word list (docs/MACHINE.md, Word lists and their order) or a rule sheet
+-- (docs/SHEETS.md, The records), with the tests by which a load is refused (docs/NUMBERS.md, The
+-- order of the tests).
 use Rattle.std.specs.Prelude.{ℕ, Result, Ok, Err, ◌+◌, ◌-◌, List, [], ◌∷◌, ◌++◌, length, set, replicate, ltb, eqb, if◌then◌else◌}
 use Rattle.emulator.specs.declared.core_record.Core.{Core}
 use Rattle.emulator.specs.Core.{new_core}
@@ -26,7 +27,7 @@ left answer core edition mem = record { answer = answer; core = core; edition = 
 abbrev pub refused_with : SheetRefusal → List ℕ → Left
 refused_with refusal mem = left (Err refusal) new_core 1 mem
 
--- a plain word list (`with_content`): host test 1, then whether it is longer than memory; else
+-- a plain word list: host test 1, then whether it is longer than memory; else
 -- memory is the words from address 0 on, and 0 past them; its edition is 1
 unfoldable pub load_words_of : List ℕ → List ℕ → Left
 load_words_of words mem =
@@ -40,7 +41,7 @@ pub data Reading : Type 0 where
   gives : Core → ℕ → List ℕ → Reading
   fails : SheetRefusal → Reading
 
--- after an accepted end: no records
+-- after an end that counts right no record may stand
 abbrev pub closed : List ℕ → Core → ℕ → List ℕ → Reading
 closed [] core edition mem = Reading.gives core edition mem
 closed (w ∷ rest) core edition mem = Reading.fails AfterEnd
@@ -74,7 +75,7 @@ module _ (counts : Record → ℕ) where
 abbrev pub sheet_reads : List ℕ → ℕ → Reading
 sheet_reads sheet size = read_from every_record sheet 0 0 new_core 1 (replicate size 0)
 
--- whether the sheet passes, after host test 1, and what is left then
+-- whether the sheet passes, after host test 1
 abbrev pub tested_of : Reading → Result (Unit {0}) SheetRefusal
 tested_of (Reading.gives core edition mem) = Ok tt
 tested_of (Reading.fails refusal) = Err refusal

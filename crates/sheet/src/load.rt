@@ -35,8 +35,9 @@ fn put_words(words: &[u16], memory: &mut [u16]) -> Result<(), SheetRefusal>
     Ok(())
 }
 
-/// Loads a plain word list: its words go to memory from address 0 on, and zeros past them. A list
-/// that is refused, by 1 or 3, leaves memory as it is.
+/// Loads a plain word list (docs/MACHINE.md, Word lists and their order): its words go to memory
+/// from address 0 on, and zeros past them. A list that is refused, by 1 or 3, leaves memory as it
+/// is.
 pub fn load_words(words: &[u16], memory: &mut [u16]) -> Load
     ensures { left result.answer result.core result.edition memory.new ≡ load_words_of words.now memory.old }
 {
@@ -127,8 +128,9 @@ fn apply_sheet(sheet: &[u32], memory: &mut [u16]) -> (Core, u16)
 }
 
 /// Loads a rule sheet (docs/SHEETS.md, The records): memory becomes zeros but for the words that
-/// the sheet places. A sheet that is refused leaves memory as it is: by 1, or record by record by
-/// the first of 20, 21, 22, 34, 23, 26, 25 and 24 (docs/NUMBERS.md, The order of the tests).
+/// the sheet places. A sheet that is refused leaves memory as it is. It is refused by 1; record by
+/// record by the first of 20, 21, 22, 34, 23, 26 and 25; or by 24 after the last record
+/// (docs/NUMBERS.md, The order of the tests).
 // Only the second pass writes. (It isn't inlined, so that in `berth` the run's loop stands well:
 // docs/PERFORMANCE.md.)
 #[tactic(auto, unfolding(crate::specs::Load::load_sheet_of))]

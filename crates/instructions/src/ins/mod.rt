@@ -5,9 +5,9 @@ use crate::reg::{DR, GPR, SPR};
 pub mod encoding;
 
 /// An instruction with its operands (docs/MACHINE.md, Instructions). What each does is a row of the
-/// table `execute_of`, crates/execute/specs/Execute.antt; a line here says it in short. There an
-/// operand stands for the word in its register, and a result goes to `reg` where nothing else is
-/// said.
+/// table `execute_of`, crates/execute/specs/Execute.antt; a line here says it in short. In these
+/// lines a register operand stands for the word in it, and a result goes to `reg` where nothing
+/// else is said.
 // `Debug` and `PartialEq` are not derived: their proofs take longer than those of the whole crate.
 #[derive(Clone, Copy)]
 pub enum Instruction {
