@@ -1,5 +1,6 @@
 //! The program `berth`: reads a rule sheet's bytes from standard input, runs it, prints one line.
-//! `run` is the program over any reader and writer, and `main` hands it the standard streams.
+//! `run` is the program over any reader and writer, `main` hands it the standard streams, and
+//! `arguments` has what it says where it is called with one.
 //! It makes true docs/SHEETS.md, The line, and What the program reads.
 #![tactic(auto)]
 
@@ -8,12 +9,13 @@ ghost use Rattle.std.specs.Io.KnownBytes.{Appends, Consumes, IsAtEnd};
 ghost use Rattle.std.specs.Io.{ReadsAtMost};
 ghost use Rattle.std.specs.Prelude.{◌<◌, IfOk, IfSome, OnOk, length, take};
 
+mod arguments;
+
+use arguments::{USE, has_argument};
 use line::line_of;
-use std::env::FillError;
 use std::io;
 use std::io::{Read, Write};
 use std::process::ExitCode;
-use std::rt::Env;
 
 // Reads until `buf` is full or the input ends, and answers how many bytes it put at the start of
 // `buf`. (`read_to_end` wants a `Vec`, and there is no heap.)
@@ -46,17 +48,6 @@ pub fn run<R: Read, W: Write>(reader: &mut R, writer: &mut W) -> io::Result<()>
     let mut input = [0u8; 32769];
     let read = read_full(reader, &mut input)?;
     writer.write_all(line_of(&input[..read]).as_slice())
-}
-
-// What the program says where it is called with an argument.
-const USE: &str =
-    "berth takes no arguments. It reads a rule sheet's bytes from standard input, four for each\n\
-    record, low byte first. A sheet that is text is run by scripts/berth FILE.\n";
-
-// Whether the program was called with an argument. (`env::args` would copy each of them to a heap;
-// here an argument is asked for with no room for it, and it is there if it is empty or too long.)
-fn has_argument(env: &impl Env) -> bool {
-    !matches!(env.arg(1, &mut []), Err(FillError::NotPresent))
 }
 
 fn main(rt: HostRuntime) -> io::Result<ExitCode> {
