@@ -30,8 +30,7 @@ is_old() { [ -n "$(find "$root"/crates/*/src -newer "$program" -print -quit 2> /
 # `rt run` builds the program, and then runs it, here on no sheet. What all that prints is shown
 # only where it fails.
 build_program() {
-    local said begun
-    printf -v begun '%(%s)T' -1
+    local said begun=${EPOCHREALTIME/,/.}
     echo "$script: building the program, which takes some minutes the first time" >&2
     if ! said=$(cd "$root/crates/berth" && rt run < /dev/null 2>&1); then
         printf '%s\n%s\n' "$said" "$script: the program was not built, as said above" >&2
