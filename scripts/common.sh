@@ -10,7 +10,8 @@ absolute() { [ -z "$1" ] || realpath -m "$1"; }
 library_given=$(absolute "${NILGUSEG_LIB:-}")
 sources_given=$(absolute "${DELTA_NULL_SOURCES:-}")
 
-cd "$(dirname "${BASH_SOURCE[0]}")/.." > /dev/null
+unset CDPATH # by which cd might go elsewhere
+cd "$(dirname "${BASH_SOURCE[0]}")/.."
 export NILGUSEG_LIB=${library_given:-$PWD/target/staticlib}
 export DELTA_NULL_SOURCES=${sources_given:-$PWD/../shared/docs}
 unset CARGO_TARGET_DIR # rust/.cargo/config.toml says where cargo builds
