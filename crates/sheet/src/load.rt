@@ -20,6 +20,17 @@ pub struct Load {
     pub answer: Result<(), SheetRefusal>,
 }
 
+// The slice becomes the words. (`copy_from_slice` would have the library ask its host for
+// `memmove`.)
+fn copy(words: &[u16], front: &mut [u16])
+    requires { length front.old ≡ length words.now }
+    ensures { front.new ≡ words.now }
+{
+    for (at, word) in words.iter().enumerate() {
+        front[at] = *word;
+    }
+}
+
 // Memory becomes the words from address 0 on, and 0 past them.
 #[tactic(auto, unfolding(crate::specs::Load::load_words_of))]
 fn put_words(words: &[u16], memory: &mut [u16]) -> Result<(), SheetRefusal>
@@ -30,7 +41,7 @@ fn put_words(words: &[u16], memory: &mut [u16]) -> Result<(), SheetRefusal>
         return Err(SheetRefusal::LongList);
     }
     let (front, rest) = memory.split_at_mut(words.len());
-    front.copy_from_slice(words);
+    copy(words, front);
     rest.fill(0);
     Ok(())
 }
