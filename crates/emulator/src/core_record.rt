@@ -257,7 +257,7 @@ impl Core {
             Ok(edition) => edition,
             Err(refusal) => return no_run(self, End::Refused(refusal)),
         };
-        marks.fill(0);
+        marks.fill(0); // the marks are of this run alone
         marked_turns(self, memory, marks, None, limit, edition)
     }
 
@@ -279,7 +279,7 @@ impl Core {
             Ok(edition) => edition,
             Err(refusal) => return no_logged_run(self, refusal),
         };
-        marks.fill(0);
+        marks.fill(0); // of this run alone, with a log too
         logged_turns(self, memory, marks, None, limit, edition, log)
     }
 
