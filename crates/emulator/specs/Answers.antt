@@ -1,12 +1,19 @@
 -- Need not be believed: nilguseg_step, nilguseg_run_logged and nilguseg_replay promise without it.
 -- What each answer of the code says of how a step and a run come out.
-use Rattle.std.specs.Prelude.{ℕ, ◌==◌, if◌then◌else◌, Result, Ok, Err}
+use Rattle.std.specs.Prelude.{ℕ, ◌==◌, if◌then◌else◌, List, Result, Ok, Err}
 use Rattle.memory.specs.Outcome.{Outcome, stepped, halted, limit, fault, refused, ended, stop_of, refusal_number, log_end_number}
 use Rattle.memory.specs.declared.stop.Stop.{Stop}
 use Rattle.emulator.specs.declared.cycle.End.{End}
+use Rattle.emulator.specs.declared.cycle.Special.{Special}
+use Rattle.emulator.specs.declared.core_record.Core.{Core}
+use Rattle.emulator.specs.Core.{core_of}
 use Rattle.emulator.specs.declared.cycle.End.TheVariants as ends
 use Rattle.emulator.specs.declared.core_record.Answer.{Answer}
 use Rattle.emulator.specs.declared.core_record.Answer.TheVariants as answers
+
+-- the core whose registers the loop has in two parts
+abbrev pub core_with : List ℕ → Special → Core
+core_with gprs special = core_of gprs special.ip special.rp special.sp special.ef
 
 -- what a cycle of a core that runs comes to
 abbrev pub progress_of : Result (Unit {0}) Stop → Outcome

@@ -1,7 +1,8 @@
-//! One cycle and the loop of cycles, on any store. The loop has the core in a variable of its own
-//! and lends it to each cycle.
+//! One cycle and the loop of cycles, on any store. The loop takes the core apart once and lends its
+//! registers to each cycle: the general ones, which are found by their number, so that they stand in
+//! memory, and the special ones, which beside them may stand in the processor's own.
 ghost use Rattle.std.specs.Prelude.{◌≡◌, ◌++◌, [], List, ℕ};
-ghost use Rattle.emulator.specs.Answers.{progress_of, end_of};
+ghost use Rattle.emulator.specs.Answers.{core_with, progress_of, end_of};
 ghost use Rattle.memory.specs.Rights.{bytes_of};
 ghost use Rattle.emulator.specs.Machine.{access_of, after_of, planned, plan_of, turn, carry_out, cycle_of, ran, run_until};
 
@@ -25,26 +26,36 @@ pub enum End {
     Log(LogEnd),
 }
 
+// The registers beside the general ones.
+#[derive(Clone, Copy)]
+struct Special {
+    ip: u16,
+    rp: u16,
+    sp: u16,
+    ef: u16,
+}
+
 // Changes the registers as the effect says, and makes its access.
 fn obey<S: Store>(
-    core: &mut Core,
+    gprs: &mut [u16; 8],
+    special: &mut Special,
     effect: Effect,
     store: &mut S,
     rights: Rights<'_>,
 ) -> Result<(), Stop>
-    ensures turn { turn (progress_of result) core.new (S.seen store.new) ≡ (carry_out (S.store (bytes_of rights.entry)) (planned (after_of core.old effect) (access_of effect)) (S.seen store.old)).result }
-    ensures noted { (start : S) (l : List ℕ) → S.Noted start store.old l → S.Noted start store.new (l ++ (carry_out (S.store (bytes_of rights.entry)) (planned (after_of core.old effect) (access_of effect)) (S.seen store.old)).log) }
+    ensures turn { turn (progress_of result) (core_with gprs.new special.new) (S.seen store.new) ≡ (carry_out (S.store (bytes_of rights.entry)) (planned (after_of (core_with gprs.old special.old) effect) (access_of effect)) (S.seen store.old)).result }
+    ensures noted { (start : S) (l : List ℕ) → S.Noted start store.old l → S.Noted start store.new (l ++ (carry_out (S.store (bytes_of rights.entry)) (planned (after_of (core_with gprs.old special.old) effect) (access_of effect)) (S.seen store.old)).log) }
 {
     match effect {
         Effect::None => {}
-        Effect::Gpr(reg, value) => core.gprs[reg.encode() as usize] = value,
-        Effect::Ip(value) => core.ip = value,
-        Effect::Rp(value) => core.rp = value,
-        Effect::Sp(value) => core.sp = value,
-        Effect::Ef(value) => core.ef = value,
+        Effect::Gpr(reg, value) => gprs[reg.encode() as usize] = value,
+        Effect::Ip(value) => special.ip = value,
+        Effect::Rp(value) => special.rp = value,
+        Effect::Sp(value) => special.sp = value,
+        Effect::Ef(value) => special.ef = value,
         Effect::Call(address) => {
-            core.rp = core.ip;
-            core.ip = address;
+            special.rp = special.ip;
+            special.ip = address;
         }
         Effect::Load {
             address,
@@ -52,15 +63,15 @@ fn obey<S: Store>(
             raise,
         } => {
             let word = store.read(rights, Purpose::Read, address)?;
-            core.gprs[into.encode() as usize] = word;
-            core.sp = execute::add(core.sp, raise);
+            gprs[into.encode() as usize] = word;
+            special.sp = execute::add(special.sp, raise);
         }
         Effect::Store {
             address,
             value,
             lower,
         } => {
-            core.sp = execute::sub(core.sp, lower);
+            special.sp = execute::sub(special.sp, lower);
             store.write(rights, address, value)?;
         }
         Effect::Decimal(word) => return Err(Stop::Decimal(word)),
@@ -72,28 +83,29 @@ fn obey<S: Store>(
 
 // Fetches at ip, advances ip, and obeys the word.
 fn cycle<S: Store>(
-    core: &mut Core,
+    gprs: &mut [u16; 8],
+    special: &mut Special,
     store: &mut S,
     rights: Rights<'_>,
     edition: Edition,
 ) -> Result<(), Stop>
-    ensures turn { turn (progress_of result) core.new (S.seen store.new) ≡ (cycle_of (S.store (bytes_of rights.entry)) (plan_of edition) core.old (S.seen store.old)).result }
-    ensures noted { (start : S) (l : List ℕ) → S.Noted start store.old l → S.Noted start store.new (l ++ (cycle_of (S.store (bytes_of rights.entry)) (plan_of edition) core.old (S.seen store.old)).log) }
+    ensures turn { turn (progress_of result) (core_with gprs.new special.new) (S.seen store.new) ≡ (cycle_of (S.store (bytes_of rights.entry)) (plan_of edition) (core_with gprs.old special.old) (S.seen store.old)).result }
+    ensures noted { (start : S) (l : List ℕ) → S.Noted start store.old l → S.Noted start store.new (l ++ (cycle_of (S.store (bytes_of rights.entry)) (plan_of edition) (core_with gprs.old special.old) (S.seen store.old)).log) }
 {
-    let word = store.read(rights, Purpose::Fetch, core.ip)?;
-    core.ip = execute::add(core.ip, 1);
+    let word = store.read(rights, Purpose::Fetch, special.ip)?;
+    special.ip = execute::add(special.ip, 1);
     let ins = Instruction::decode(word)?;
     let effect = execute(
-        ins, word, edition, &core.gprs, core.ip, core.rp, core.sp, core.ef,
+        ins, word, edition, gprs, special.ip, special.rp, special.sp, special.ef,
     );
-    obey(core, effect, store, rights)
+    obey(gprs, special, effect, store, rights)
 }
 
 /// Cycles up to the limit, on a store, whose marks it doesn't set to 0: each turn tests halt first,
 /// then the limit, then the log. A cycle that faults isn't counted. (A `for` up to the limit would
 /// test the limit before halt.)
 pub fn turns<S: Store>(
-    mut core: Core,
+    core: Core,
     store: &mut S,
     rights: Rights<'_>,
     limit: u32,
@@ -102,9 +114,16 @@ pub fn turns<S: Store>(
     ensures run { ran (end_of result.end) result.steps result.core (S.seen store.new) ≡ (run_until (S.store (bytes_of rights.entry)) (plan_of edition) (S.over store.old) S.why limit 0 core (S.seen store.old) []).result }
     ensures noted { S.Noted store.old store.new (run_until (S.store (bytes_of rights.entry)) (plan_of edition) (S.over store.old) S.why limit 0 core (S.seen store.old) []).log }
 {
+    let mut gprs = core.gprs;
+    let mut special = Special {
+        ip: core.ip,
+        rp: core.rp,
+        sp: core.sp,
+        ef: core.ef,
+    };
     let mut steps: u32 = 0;
     let end = loop {
-        if execute::is_halted(core.ef) {
+        if execute::is_halted(special.ef) {
             break End::Halted;
         }
         if steps == limit {
@@ -113,10 +132,18 @@ pub fn turns<S: Store>(
         if let Some(end) = store.log_end() {
             break End::Log(end);
         }
-        if let Err(stop) = cycle(&mut core, store, rights, edition) {
+        if let Err(stop) = cycle(&mut gprs, &mut special, store, rights, edition) {
             break End::Fault(stop);
         }
         steps += 1;
+    };
+    let Special { ip, rp, sp, ef } = special;
+    let core = Core {
+        gprs,
+        ip,
+        rp,
+        sp,
+        ef,
     };
     Run { core, steps, end }
 }
