@@ -1,6 +1,7 @@
 /* Nilguseg: the Delta Null interpreter, for C hosts. Link with libnilguseg.a and, for decode and
  * encode, libnilguseg_words.a, for the logged runs, libnilguseg_log.a, for the replays,
- * libnilguseg_replay.a, and for nilguseg_run_guarded, libnilguseg_guarded.a.
+ * libnilguseg_replay.a, and for nilguseg_run_guarded, libnilguseg_guarded.a. They ask for one name
+ * from outside, memset.
  *
  * The machine is that of docs/MACHINE.md, and rule sheets are those of docs/SHEETS.md. The numbers
  * of faults, refusals and ends by the log are those of docs/NUMBERS.md.
