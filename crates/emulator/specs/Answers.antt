@@ -1,5 +1,6 @@
 -- Need not be believed: nilguseg_step, nilguseg_run_logged and nilguseg_replay promise without it.
--- What each answer of the code says of how a step and a run come out.
+-- What each answer of the code says of how a step and a run come out, and which core the registers
+-- of the loop are.
 use Rattle.std.specs.Prelude.{ℕ, ◌==◌, if◌then◌else◌, List, Result, Ok, Err}
 use Rattle.memory.specs.Outcome.{Outcome, stepped, halted, limit, fault, refused, ended, stop_of, refusal_number, log_end_number}
 use Rattle.memory.specs.declared.stop.Stop.{Stop}
@@ -12,8 +13,8 @@ use Rattle.emulator.specs.declared.core_record.Answer.{Answer}
 use Rattle.emulator.specs.declared.core_record.Answer.TheVariants as answers
 
 -- the core whose registers the loop has in two parts
-abbrev pub core_with : List ℕ → Special → Core
-core_with gprs special = core_of gprs special.ip special.rp special.sp special.ef
+abbrev pub core_of_parts : List ℕ → Special → Core
+core_of_parts gprs special = core_of gprs special.ip special.rp special.sp special.ef
 
 -- what a cycle of a core that runs comes to
 abbrev pub progress_of : Result (Unit {0}) Stop → Outcome

@@ -1,8 +1,8 @@
 //! One cycle and the loop of cycles, on any store. The loop takes the core apart once and lends its
-//! registers to each cycle: the general ones, which are found by their number, so that they stand in
-//! memory, and the special ones, which beside them may stand in the processor's own.
+//! registers to each cycle in two parts. The general ones are found by their number and so stand in
+//! memory; apart from them the special ones can stand in the processor's own.
 ghost use Rattle.std.specs.Prelude.{◌≡◌, ◌++◌, [], List, ℕ};
-ghost use Rattle.emulator.specs.Answers.{core_with, progress_of, end_of};
+ghost use Rattle.emulator.specs.Answers.{core_of_parts, progress_of, end_of};
 ghost use Rattle.memory.specs.Rights.{bytes_of};
 ghost use Rattle.emulator.specs.Machine.{access_of, after_of, planned, plan_of, turn, carry_out, cycle_of, ran, run_until};
 
@@ -26,8 +26,7 @@ pub enum End {
     Log(LogEnd),
 }
 
-// The registers beside the general ones.
-#[derive(Clone, Copy)]
+// The special registers.
 struct Special {
     ip: u16,
     rp: u16,
@@ -43,8 +42,8 @@ fn obey<S: Store>(
     store: &mut S,
     rights: Rights<'_>,
 ) -> Result<(), Stop>
-    ensures turn { turn (progress_of result) (core_with gprs.new special.new) (S.seen store.new) ≡ (carry_out (S.store (bytes_of rights.entry)) (planned (after_of (core_with gprs.old special.old) effect) (access_of effect)) (S.seen store.old)).result }
-    ensures noted { (start : S) (l : List ℕ) → S.Noted start store.old l → S.Noted start store.new (l ++ (carry_out (S.store (bytes_of rights.entry)) (planned (after_of (core_with gprs.old special.old) effect) (access_of effect)) (S.seen store.old)).log) }
+    ensures turn { turn (progress_of result) (core_of_parts gprs.new special.new) (S.seen store.new) ≡ (carry_out (S.store (bytes_of rights.entry)) (planned (after_of (core_of_parts gprs.old special.old) effect) (access_of effect)) (S.seen store.old)).result }
+    ensures noted { (start : S) (l : List ℕ) → S.Noted start store.old l → S.Noted start store.new (l ++ (carry_out (S.store (bytes_of rights.entry)) (planned (after_of (core_of_parts gprs.old special.old) effect) (access_of effect)) (S.seen store.old)).log) }
 {
     match effect {
         Effect::None => {}
@@ -89,8 +88,8 @@ fn cycle<S: Store>(
     rights: Rights<'_>,
     edition: Edition,
 ) -> Result<(), Stop>
-    ensures turn { turn (progress_of result) (core_with gprs.new special.new) (S.seen store.new) ≡ (cycle_of (S.store (bytes_of rights.entry)) (plan_of edition) (core_with gprs.old special.old) (S.seen store.old)).result }
-    ensures noted { (start : S) (l : List ℕ) → S.Noted start store.old l → S.Noted start store.new (l ++ (cycle_of (S.store (bytes_of rights.entry)) (plan_of edition) (core_with gprs.old special.old) (S.seen store.old)).log) }
+    ensures turn { turn (progress_of result) (core_of_parts gprs.new special.new) (S.seen store.new) ≡ (cycle_of (S.store (bytes_of rights.entry)) (plan_of edition) (core_of_parts gprs.old special.old) (S.seen store.old)).result }
+    ensures noted { (start : S) (l : List ℕ) → S.Noted start store.old l → S.Noted start store.new (l ++ (cycle_of (S.store (bytes_of rights.entry)) (plan_of edition) (core_of_parts gprs.old special.old) (S.seen store.old)).log) }
 {
     let word = store.read(rights, Purpose::Fetch, special.ip)?;
     special.ip = execute::add(special.ip, 1);
@@ -114,13 +113,14 @@ pub fn turns<S: Store>(
     ensures run { ran (end_of result.end) result.steps result.core (S.seen store.new) ≡ (run_until (S.store (bytes_of rights.entry)) (plan_of edition) (S.over store.old) S.why limit 0 core (S.seen store.old) []).result }
     ensures noted { S.Noted store.old store.new (run_until (S.store (bytes_of rights.entry)) (plan_of edition) (S.over store.old) S.why limit 0 core (S.seen store.old) []).log }
 {
-    let mut gprs = core.gprs;
-    let mut special = Special {
-        ip: core.ip,
-        rp: core.rp,
-        sp: core.sp,
-        ef: core.ef,
-    };
+    let Core {
+        mut gprs,
+        ip,
+        rp,
+        sp,
+        ef,
+    } = core;
+    let mut special = Special { ip, rp, sp, ef };
     let mut steps: u32 = 0;
     let end = loop {
         if execute::is_halted(special.ef) {
