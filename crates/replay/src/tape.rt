@@ -1,5 +1,5 @@
 //! The log in memory's place: each read must be the next two words.
-ghost use Rattle.std.specs.Prelude.{◌≡◌, ◌&&◌, length, drop, eqb, not, refl};
+ghost use Rattle.std.specs.Prelude.{◌≡◌, [], false, ◌&&◌, length, drop, eqb, not, refl};
 ghost use Rattle.replay.specs.Places.{is_entry, begins, begun};
 ghost use Rattle.replay.specs.Replay.{Tape, tape, tape_store};
 ghost use Rattle.memory.specs.declared.refusal.LogEnd.TheVariants.{Mismatch};
@@ -34,6 +34,19 @@ impl LogTape<'_> {
     {
         self.matches && self.rest.is_empty()
     }
+
+    // Takes what is left, too few words for a read, which is no match. (Cold and not inlined, or
+    // every read that finds its two words would jump over this: docs/PERFORMANCE.md.)
+    #[cold]
+    #[inline(never)]
+    fn run_out(&mut self)
+        ensures rest { self.new.rest.now ≡ [] }
+        ensures matches { self.new.matches ≡ false }
+        ensures size { self.new.size ≡ self.old.size }
+    {
+        self.rest = &[];
+        self.matches = false;
+    }
 }
 
 impl Store for LogTape<'_> {
@@ -53,8 +66,7 @@ impl Store for LogTape<'_> {
     fn read(&mut self, rights: Rights<'_>, purpose: Purpose, address: u16) -> Result<u16, Stop> {
         place(self.size, rights, purpose.right(), address)?;
         let Some((entry, rest)) = self.rest.split_first_chunk::<2>() else {
-            self.rest = &[];
-            self.matches = false;
+            self.run_out();
             return Ok(0);
         };
         let [named, value] = *entry;

@@ -4,7 +4,9 @@ use Rattle.replay.proofs.Tapes.{noted_two, noted_short}
 use Rattle.replay.proofs.tape.LogTapeStore.read.Goals as goal
 
 pub returns-in_default-clause-noted : goal.returns-in_default-clause-noted
-returns-in_default-clause-noted c start l h = noted_short start.matches l start.rest.now c.args.purpose c.args.address h.0 h.1 c.in_default.ensures.cases
+returns-in_default-clause-noted c start l h =
+    rw (c.run_out.ensures.rest, c.run_out.ensures.matches)
+    (noted_short start.matches l start.rest.now c.args.purpose c.args.address h.0 h.1 c.in_default.ensures.cases)
 
 pub returns-clause-noted : goal.returns-clause-noted
 returns-clause-noted c start l h =
